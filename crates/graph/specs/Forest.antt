@@ -1,0 +1,87 @@
+-- The forest of document 01, "Chunks and the two forests", as functions over any number of cells: each cell its own root,
+-- of size 1; links united by size; a label on each parent step; walks, with and without a cut.
+--
+-- Nothing here says how many cells there are. A walk takes at most `most` steps; that it has then reached a root, with
+-- most 10 for 1,024 cells, is a theorem (proofs/).
+use Prim.Native.Nat.{ℕ, zero, suc, _+_}
+use mathlib.Core.Bool.{Bool, cond, _&&_, _||_}
+use mathlib.Core.List.{List, [], _∷_}
+use lib.Dec.{eqb, ltb}
+use Rattle.graph.specs.Link.{Link}
+
+-- each cell's parent (a root's is itself), a root's number of cells, and the label of each cell's step to its parent
+pub record Forest : Type 0 where
+  pub parent : ℕ → ℕ
+  pub size : ℕ → ℕ
+  pub label : ℕ → ℕ
+
+-- each cell its own root, of size 1
+abbrev pub fresh : Forest
+fresh = record { parent = λ c. c; size = λ c. 1; label = λ c. 0 }
+
+-- where a walk ends, and its parent steps
+pub record Walk : Type 0 where
+  pub root : ℕ
+  pub steps : ℕ
+
+-- one step before a walk
+abbrev pub onward : Walk → Walk
+onward w = record { root = w .root; steps = suc (w .steps) }
+
+-- from c by `up`, until a cell that stays or for `most` steps
+unfoldable pub climb : (ℕ → ℕ) → ℕ → ℕ → Walk
+climb up zero c = record { root = c; steps = 0 }
+climb up (suc most) c =
+    let rest : Walk = onward (climb up most (up c)) in
+    cond (eqb (up c) c) (record { root = c; steps = 0 }) rest
+
+-- a walk without a cut
+unfoldable pub walk : ℕ → Forest → ℕ → Walk
+unfolding climb
+walk most f c = climb (f .parent) most c
+
+-- the parent at a cut: a step whose label is below the cut is not taken
+abbrev pub parentAt : Forest → ℕ → ℕ → ℕ
+parentAt f cut c = cond (ltb (f .label c) cut) c (f .parent c)
+
+-- a walk at a cut
+unfoldable pub walkAt : ℕ → Forest → ℕ → ℕ → Walk
+unfolding climb
+walkAt most f cut c = climb (parentAt f cut) most c
+
+-- the function that gives v at c
+abbrev pub put : ℕ → ℕ → (ℕ → ℕ) → ℕ → ℕ
+put c v f x = cond (eqb x c) v (f x)
+
+-- of two roots, a becomes the child: its tree is smaller, or as large and its number larger
+abbrev pub goesUnder : (ℕ → ℕ) → ℕ → ℕ → Bool
+goesUnder size a b = ltb (size a) (size b) || (eqb (size a) (size b) && ltb b a)
+
+-- the root `child` made a child of the root `top`, by a step with the label
+abbrev pub hung : Forest → ℕ → ℕ → ℕ → Forest
+hung f label child top =
+    record {
+      parent = put child top (f .parent);
+      size = put top (f .size top + f .size child) (f .size);
+      label = put child label (f .label);
+    }
+
+-- the trees of two roots made one, unless they are one already
+abbrev pub joinRoots : Forest → ℕ → ℕ → ℕ → Forest
+joinRoots f label a b = cond (eqb a b) f (cond (goesUnder (f .size) a b) (hung f label a b) (hung f label b a))
+
+-- a link, and the label of the step that it may make
+pub record Labelled : Type 0 where
+  pub label : ℕ
+  pub link : Link
+
+-- one link more
+unfoldable pub unite : ℕ → Forest → Labelled → Forest
+unfolding walk
+unite most f x = joinRoots f (x .label) (walk most f (x .link .one) .root) (walk most f (x .link .other) .root)
+
+-- the forest of a list of links, of which the LAST stands at the front
+unfoldable pub forestOf : ℕ → List Labelled → Forest
+unfolding unite
+forestOf most [] = fresh
+forestOf most (x ∷ xs) = unite most (forestOf most xs) x

@@ -1,0 +1,3 @@
+pub mod Forest
+pub mod Link
+pub mod Trail

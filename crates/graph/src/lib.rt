@@ -1,0 +1,1 @@
+// No code: links, chains, trails and forests as mathematics, over any number of cells. See specs/ and proofs/.
