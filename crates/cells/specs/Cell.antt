@@ -1,0 +1,58 @@
+-- Cells and mounting (document 01): rings of sectors, and the lorry's number of a unit's cell.
+--
+-- The mirror rule is `mirrorSector`, and nothing else says it. It and `mirrorOver` are shut: only the modules below this one
+-- open them. Everyone else goes by the laws (Cell/Laws), which hold of any rule that keeps to the sectors and, taken twice,
+-- changes nothing. All is said over the number of sectors of a ring; document 01's unit, of 64, comes last.
+pub mod Laws
+pub mod Table
+use Prim.Native.Nat.{ℕ, _+_, _*_, _-_, _/_, _%_}
+use mathlib.Core.Bool.{cond}
+use lib.Dec.{eqb, ltb}
+
+-- there are 16 rings
+abbrev pub rings : ℕ
+rings = 16
+
+-- the number of cells; they are numbered from 0
+abbrev pub cellsOver : ℕ → ℕ
+cellsOver sectors = rings * sectors
+
+-- cell = 64 × ring + sector
+abbrev pub cellAt : ℕ → ℕ → ℕ → ℕ
+cellAt sectors ring sector = sectors * ring + sector
+
+-- the ring of a cell
+abbrev pub ringOf : ℕ → ℕ → ℕ
+ringOf sectors c = c / sectors
+
+-- the sector of a cell
+abbrev pub sectorOf : ℕ → ℕ → ℕ
+sectorOf sectors c = c % sectors
+
+-- on a mirrored unit sector s of the unit is sector 63 - s of the lorry
+pub mirrorSector : ℕ → ℕ → ℕ
+mirrorSector sectors s = sectors - 1 - s
+
+-- in the same ring; a number that is no cell stays as it is
+pub mirrorOver : ℕ → ℕ → ℕ
+unfolding mirrorSector
+mirrorOver sectors c =
+    cond (ltb c (cellsOver sectors)) (cellAt sectors (ringOf sectors c) (mirrorSector sectors (sectorOf sectors c))) c
+
+-- the lorry's number of the unit's cell c: its mirror for mounting 2, and c itself for mounting 1 and any other number
+unfoldable pub lorryCellOver : ℕ → ℕ → ℕ → ℕ
+lorryCellOver sectors mounting c = cond (eqb mounting 2) (mirrorOver sectors c) c
+
+-- each ring has 64 sectors
+abbrev pub sectors : ℕ
+sectors = 64
+
+-- there are 1,024 cells, 0 to 1023
+abbrev pub cells : ℕ
+cells = cellsOver sectors
+
+abbrev pub mirror : ℕ → ℕ
+mirror = mirrorOver sectors
+
+abbrev pub lorryCell : ℕ → ℕ → ℕ
+lorryCell = lorryCellOver sectors

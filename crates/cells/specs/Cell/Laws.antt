@@ -1,0 +1,103 @@
+-- The laws of mirroring, for every number of sectors: callers use these, and never the rule's text.
+--
+-- Two facts about the rule carry them all, `rule-below` and `rule-twice`: it keeps to the sectors, and twice it changes
+-- nothing. A mirrored cell then has the ring it had and the mirrored sector, which is all that there is to know of a cell.
+use Prim.Native.Nat.{ℕ, _≤_, _<_}
+use mathlib.Core.Path.{_≡_, _∙_, refl, sym, ap}
+use mathlib.Core.Bool.{true, false, cond}
+use mathlib.Core.List.{[], _∷_, map}
+use native.Mathlib.Decide.{decLt}
+use native.Mathlib.Nat.{add-zero, div-add-mod, div-eq-of-lt, div-lt-iff-lt-mul, mod-eq-of-lt, mod-lt, mul-add-div, mul-add-mod-self-left}
+use native.Mathlib.Omega.{arith}
+use borrow.Author.Tests.{lt-ltb, le-ltb}
+use lib.Dec.{eqb}
+use Rattle.cells.specs.Cell.{cellsOver, cellAt, ringOf, sectorOf, mirrorSector, mirrorOver, lorryCellOver, mirror}
+
+-- document 01: 0 becomes 63, 64 becomes 127, 1023 becomes 960
+pub examples : map mirror (0 ∷ 64 ∷ 1023 ∷ []) ≡ 63 ∷ 127 ∷ 960 ∷ []
+unfolding mirrorOver
+examples = refl
+
+-- what undoes itself is injective
+injective : (f : ℕ → ℕ) → ((c : ℕ) → f (f c) ≡ c) → (a b : ℕ) → f a ≡ f b → a ≡ b
+injective f twice a b e = sym (twice a) ∙ ap f e ∙ twice b
+
+module _ (sectors : ℕ) where
+  -- the rule keeps to the sectors
+  rule-below : (s : ℕ) → s < sectors → mirrorSector sectors s < sectors
+  unfolding mirrorSector
+  rule-below s h = omega arith
+
+  -- and twice it changes nothing
+  rule-twice : (s : ℕ) → s < sectors → mirrorSector sectors (mirrorSector sectors s) ≡ s
+  unfolding mirrorSector
+  rule-twice s h = omega arith
+
+  module _ (c : ℕ) (h : c < cellsOver sectors) where
+    sectors-pos : 0 < sectors
+    sectors-pos = omega arith
+
+    sector-below : sectorOf sectors c < sectors
+    sector-below = mod-lt c sectors-pos
+
+    mirror-at : mirrorOver sectors c ≡ cellAt sectors (ringOf sectors c) (mirrorSector sectors (sectorOf sectors c))
+    unfolding mirrorOver
+    mirror-at = simp (lt-ltb _ _ h)
+
+    -- in the same ring
+    pub mirror-ring : ringOf sectors (mirrorOver sectors c) ≡ ringOf sectors c
+    mirror-ring = rw (mirror-at, mul-add-div sectors-pos, div-eq-of-lt (rule-below _ sector-below), add-zero)
+
+    -- at the mirrored sector
+    pub mirror-sector : sectorOf sectors (mirrorOver sectors c) ≡ mirrorSector sectors (sectorOf sectors c)
+    mirror-sector = rw (mirror-at, mul-add-mod-self-left, mod-eq-of-lt (rule-below _ sector-below))
+
+    -- the mirror of a cell is a cell
+    pub mirror-is-cell : mirrorOver sectors c < cellsOver sectors
+    mirror-is-cell = div-lt-iff-lt-mul sectors-pos .0 (rw mirror-ring (div-lt-iff-lt-mul sectors-pos .1 h))
+
+  -- a number that is no cell is its own mirror
+  pub mirror-other : (c : ℕ) → cellsOver sectors ≤ c → mirrorOver sectors c ≡ c
+  unfolding mirrorOver
+  mirror-other c h = simp (le-ltb _ _ h)
+
+  twice-at : (c : ℕ) → c < cellsOver sectors → mirrorOver sectors (mirrorOver sectors c) ≡ c
+  twice-at c h =
+      rw (mirror-at (mirrorOver sectors c) (mirror-is-cell c h), mirror-ring c h, mirror-sector c h)
+      (rw (rule-twice _ (sector-below c h), div-add-mod))
+
+  -- mirroring twice changes nothing
+  pub mirror-twice : (c : ℕ) → mirrorOver sectors (mirrorOver sectors c) ≡ c
+  mirror-twice c =
+      elim (decLt c (cellsOver sectors)) [
+        | yes h ↦ twice-at c h
+        | no h ↦ rw (mirror-other c (omega arith), mirror-other c (omega arith))
+      ]
+
+  -- different numbers have different mirrors
+  pub mirror-injective : (a b : ℕ) → mirrorOver sectors a ≡ mirrorOver sectors b → a ≡ b
+  mirror-injective = injective (mirrorOver sectors) mirror-twice
+
+  -- mounting 1 numbers cells as the lorry does
+  pub lorry-plain : (c : ℕ) → lorryCellOver sectors 1 c ≡ c
+  unfolding lorryCellOver
+  lorry-plain c = refl
+
+  -- mounting 2 mirrors
+  pub lorry-mirrored : (c : ℕ) → lorryCellOver sectors 2 c ≡ mirrorOver sectors c
+  unfolding lorryCellOver
+  lorry-mirrored c = refl
+
+  -- what holds of the plain and of the mirrored numbers holds of the lorry's, whatever the mounting
+  by-mounting : (P : (ℕ → ℕ) → Type 0) → P (λ c. c) → P (mirrorOver sectors) → (mounting : ℕ) → P (lorryCellOver sectors mounting)
+  unfolding lorryCellOver
+  by-mounting P plain mirrored mounting =
+      elim (eqb mounting 2) as (λ b. P (λ c. cond b (mirrorOver sectors c) c)) [ true ↦ mirrored | false ↦ plain ]
+
+  -- the lorry's number of a cell is a cell
+  pub lorry-is-cell : (mounting c : ℕ) → c < cellsOver sectors → lorryCellOver sectors mounting c < cellsOver sectors
+  lorry-is-cell = by-mounting (λ f. (c : ℕ) → c < cellsOver sectors → f c < cellsOver sectors) (λ c h. h) mirror-is-cell
+
+  -- different cells have different numbers on the lorry
+  pub lorry-injective : (mounting a b : ℕ) → lorryCellOver sectors mounting a ≡ lorryCellOver sectors mounting b → a ≡ b
+  lorry-injective = by-mounting (λ f. (a b : ℕ) → f a ≡ f b → a ≡ b) (λ a b e. e) mirror-injective
