@@ -3,7 +3,7 @@
 --
 -- Nothing here says how many cells there are. A walk takes at most `most` steps; that it has then reached a root, with
 -- most 10 for 1,024 cells, is a theorem (proofs/).
-use Prim.Native.Nat.{ℕ, zero, suc, _+_}
+use Prim.Native.Nat.{ℕ, zero, suc, _+_, _≤_, _<_}
 use mathlib.Core.Bool.{Bool, cond, _&&_, _||_}
 use mathlib.Core.List.{List, [], _∷_}
 use lib.Dec.{eqb, ltb}
@@ -85,3 +85,25 @@ unfoldable pub forestOf : ℕ → List Labelled → Forest
 unfolding unite
 forestOf most [] = fresh
 forestOf most (x ∷ xs) = unite most (forestOf most xs) x
+
+-- the links whose label is not below the cut
+unfoldable pub atLeast : ℕ → List Labelled → List Labelled
+atLeast cut [] = []
+atLeast cut (x ∷ xs) =
+    let rest : List Labelled = atLeast cut xs in
+    cond (ltb (x .label) cut) rest (x ∷ rest)
+
+-- P holds of each link of the list
+pub data Each (P : Labelled → Type 0) : List Labelled → Type 0 where
+  empty : Each P []
+  also : {x : Labelled} {xs : List Labelled} → P x → Each P xs → Each P (x ∷ xs)
+
+-- both ends of each link are below n
+abbrev pub EndsBelow : ℕ → List Labelled → Type 0
+EndsBelow n = Each (λ x. (x .link .one < n) × (x .link .other < n))
+
+-- labels never rise from link to link: each is at most those of the links before it, which stand after it in the list
+pub data NeverRise : List Labelled → Type 0 where
+  start : NeverRise []
+  lowest : {x : Labelled} {xs : List Labelled} →
+      Each (λ y. x .label ≤ y .label) xs → NeverRise xs → NeverRise (x ∷ xs)

@@ -1,11 +1,11 @@
 -- Trails (document 01, "Chain and hold"): lists of cells, each neighbouring two linked; the one with the fewest links
 -- that comes first by cell numbers (`Best`), and a finder of it (`trailOf`).
 --
--- The finder rests on `fewest`, which grows with the list of links: a shortest trail passes a further link not at all,
--- or once, in one of its two directions.
+-- The finder rests on `fewestLinks`, which grows with the list of links: a shortest trail passes a further link not at
+-- all, or once, in one of its two directions.
 use Prim.Native.Nat.{ℕ, zero, suc, _+_, _≤_, _<_, min}
 use mathlib.Core.Path.{_≡_}
-use mathlib.Core.Bool.{Bool, true, false, cond, _&&_}
+use mathlib.Core.Bool.{Bool, true, false, cond}
 use mathlib.Core.List.{List, [], _∷_}
 use mathlib.Core.Option.{Option, none, some}
 use lib.Dec.{eqb}
@@ -77,6 +77,7 @@ descend ls b zero (some a) = a ∷ []
 descend ls b (suc k) none = []
 descend ls b (suc k) (some a) = a ∷ descend ls b k (nextCell ls b k a ls)
 
+-- the best trail from a to b, by the number of its links
 unfoldable pub trailBy : List Link → ℕ → ℕ → Option ℕ → List ℕ
 unfolding descend
 trailBy ls a b none = []
