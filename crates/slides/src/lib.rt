@@ -1,0 +1,126 @@
+// The clock's few numbers, and what follows from them: the slide of a tick, the chunk and the place of a slide, and the
+// step that moves time.
+use settings::Settings;
+ghost use mathlib.Core.Path.{_≡_};
+ghost use Rattle.slides.specs.Clock.{notBefore, slideOf, openSlide, chunkOf, placeOf, started, movedTo, clockInRange};
+
+#[repr(C)]
+pub struct Clock {
+    // T0, the first tick
+    pub t0: u32,
+    // B, the slide length in ticks
+    pub b: u32,
+    // the latest time
+    pub time: u32,
+    // the window width in slides
+    pub n: u8,
+}
+
+// The clock of a book that opens: time starts at T0.
+pub fn start(s: Settings) -> Clock
+    ensures { λ r. ⌜ r ≡ started s ⌝ }
+{
+    Clock {
+        t0: s.t0,
+        b: s.b,
+        time: s.t0,
+        n: s.n,
+    }
+}
+
+// Whether the clock's numbers are such as a book may hold.
+pub fn in_range(clock: Clock) -> bool
+    ensures { λ r. ⌜ r ≡ clockInRange clock ⌝ }
+{
+    let n = clock.n;
+    let b = clock.b;
+    if n < 1 {
+        return false;
+    }
+    if 16 < n {
+        return false;
+    }
+    if b < 1 {
+        return false;
+    }
+    clock.t0 <= clock.time
+}
+
+pub fn not_before(clock: Clock, tick: u32) -> bool
+    ensures { λ r. ⌜ r ≡ notBefore clock tick ⌝ }
+{
+    clock.time <= tick
+}
+
+// 0 for a tick before T0 and for a slide of 0 ticks, which no book in range meets.
+pub fn slide(clock: Clock, tick: u32) -> u64
+    ensures { λ r. ⌜ r ≡ slideOf clock tick ⌝ }
+{
+    let t0 = clock.t0;
+    let b = clock.b;
+    if b == 0 {
+        return 0;
+    }
+    if tick < t0 {
+        return 0;
+    }
+    ((tick - t0) / b) as u64
+}
+
+pub fn open_slide(clock: Clock) -> u64
+    ensures { λ r. ⌜ r ≡ openSlide clock ⌝ }
+{
+    slide(clock, clock.time)
+}
+
+pub fn chunk(clock: Clock, slide: u64) -> u64
+    ensures { λ r. ⌜ r ≡ chunkOf clock slide ⌝ }
+{
+    let n = clock.n as u64;
+    if n == 0 {
+        return 0;
+    }
+    slide / n
+}
+
+pub fn place(clock: Clock, slide: u64) -> u8
+    ensures { λ r. ⌜ r ≡ placeOf clock slide ⌝ }
+{
+    let n = clock.n as u64;
+    if n == 0 {
+        return 0;
+    }
+    (slide % n) as u8
+}
+
+// The clock after a tick, by value.
+pub fn moved(clock: Clock, tick: u32) -> Clock
+    ensures { λ r. ⌜ r ≡ movedTo clock tick ⌝ }
+{
+    if not_before(clock, tick) {
+        Clock {
+            t0: clock.t0,
+            b: clock.b,
+            time: tick,
+            n: clock.n,
+        }
+    } else {
+        clock
+    }
+}
+
+// The clock's record, lent and altered there.
+pub fn advance(clock: &mut Clock, tick: u32)
+    ensures { λ _. ⌜ now (clock .exit) ≡ movedTo (now (clock .entry)) tick ⌝ }
+{
+    *clock = moved(*clock, tick);
+}
+
+// The same with plain parameters, for callers: the record is lent here alone.
+pub fn advanced(old: Clock, tick: u32) -> Clock
+    ensures { λ r. ⌜ r ≡ movedTo old tick ⌝ }
+{
+    let mut lent = old;
+    advance(&mut lent, tick);
+    lent
+}
