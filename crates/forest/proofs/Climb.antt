@@ -1,0 +1,74 @@
+-- The loop of a walk, whichever parents it goes by: the walk from the start is the steps so far, and then the walk of what
+-- is left from the cell where the loop stands.
+use Prim.Native.Nat.{ℕ, zero, suc, _+_, _-_, _≤_, _<_}
+use mathlib.Core.Path.{_≡_, refl, sym, ap, _∙_}
+use native.Mathlib.Omega.{arith}
+use native.Mathlib.Nat.{zero-add, add-zero, sub-zero}
+use lib.Dec.{eqb}
+use borrow.Author.Tests.{eq-eqb, ne-eqb}
+use Rattle.graph.specs.Forest as graph
+use Rattle.graph.specs.Forest.{climb, onward}
+use Rattle.forest.specs.declared.Walk.{Walk}
+use Rattle.forest.specs.Arrays.{walked, ends}
+
+module _ (up : ℕ → ℕ) where
+  -- a cell that stays ends a walk
+  pub climb-stays : (most c : ℕ) → up c ≡ c → climb up most c ≡ record { root = c; steps = 0 }
+  unfolding climb
+  climb-stays zero c e = refl
+  climb-stays (suc most) c e = simp (eq-eqb _ _ e)
+
+  -- any other is one step before the walk from its parent
+  pub climb-goes : (most c : ℕ) → (up c ≡ c → ⊥) → climb up (suc most) c ≡ onward (climb up most (up c))
+  unfolding climb
+  climb-goes most c n = simp (ne-eqb _ _ n)
+
+  -- no steps are left
+  pub climb-none : (c : ℕ) → climb up 0 c ≡ record { root = c; steps = 0 }
+  unfolding climb
+  climb-none c = refl
+
+-- so many steps before a walk
+abbrev pub ahead : ℕ → graph.Walk → Walk
+ahead k w = record { root = w .root; steps = k + w .steps }
+
+-- the loop stands at `at` after so many steps
+pub record Reached (up : ℕ → ℕ) (most cell at steps : ℕ) : Type 0 where
+  pub within : steps ≤ most
+  pub rest : walked (climb up most cell) ≡ ahead steps (climb up (most - steps) at)
+
+module _ (up : ℕ → ℕ) (most cell : ℕ) where
+  pub begins : Reached up most cell cell 0
+  begins = record { within = omega arith; rest = simp (sub-zero, zero-add) }
+
+  -- the walk is over, at a root or with the last step
+  over : {at steps : ℕ} → Reached up most cell at steps → climb up (most - steps) at ≡ record { root = at; steps = 0 }
+      → record { root = at; steps = steps } ≡ walked (climb up most cell)
+  over r e = sym (r .rest ∙ rw (e, add-zero))
+
+  pub stays : {at next steps : ℕ} → Reached up most cell at steps → next ≡ up at → next ≡ at
+      → record { root = at; steps = steps } ≡ walked (climb up most cell)
+  stays r e s = over r (climb-stays up _ _ (sym e ∙ s))
+
+  pub ended : {at steps : ℕ} → Reached up most cell at steps → most ≤ steps
+      → record { root = at; steps = steps } ≡ walked (climb up most cell)
+  ended {at} {steps} r h = over r (rw (let z : most - steps ≡ 0 = omega arith in z) (climb-none up at))
+
+  pub goes : {at next steps : ℕ} → Reached up most cell at steps → next ≡ up at → (next ≡ at → ⊥) → steps < most
+      → Reached up most cell next (steps + 1)
+  goes {at} {next} {steps} r e n h = record { within = omega arith; rest = r .rest ∙ ap (ahead steps) one ∙ ap tail (omega arith) }
+    where
+      left : ℕ
+      left = most - (steps + 1)
+
+      one : climb up (most - steps) at ≡ onward (climb up left next)
+      one =
+          ap (λ k. climb up k at) (omega arith) ∙ climb-goes up left at (λ s. n (e ∙ s))
+          ∙ ap (λ x. onward (climb up left x)) (sym e)
+
+      tail : ℕ → Walk
+      tail k = record { root = climb up left next .root; steps = k }
+
+  -- where the walk's root is known, so is whether it ends
+  pub ends-there : {at steps : ℕ} → record { root = at; steps = steps } ≡ walked (climb up most cell) → eqb (up at) at ≡ ends up most cell
+  ends-there e = ap (λ w. eqb (up (w .root)) (w .root)) e

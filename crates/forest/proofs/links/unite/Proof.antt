@@ -1,0 +1,28 @@
+-- `forest::links::unite` meets its contract: what each store leaves, for the hang that was read first.
+use borrow.Author.Needs.{needs}
+use Rattle.forest.proofs.links.unite.Statement.{statement}
+use Rattle.forest.proofs.links.unite.Tie as tie
+
+hang-requires : tie.Need-hang-requires
+hang-requires c κs = search needs
+
+hang-parent-requires : tie.Need-hang-parent-requires
+hang-parent-requires c κs = search needs
+
+hang-size-requires : tie.Need-hang-size-requires
+hang-size-requires c κs = search needs
+
+hang-label-requires : tie.Need-hang-label-requires
+hang-label-requires c κs = search needs
+
+returns : tie.Need-returns
+returns c =
+    let read = c .before .before .before .before .before .before .hang .ensures in
+    record {
+      parents = rw (← read) (c .before .before .before .before .hang-parent .ensures);
+      sizes = rw (← read) (c .before .before .hang-size .ensures);
+      labels = rw (← read) (c .hang-label .ensures);
+    }
+
+pub unite-spec : {M : Type 1} → statement M
+unite-spec = tie.close (tie.spec hang-requires hang-parent-requires hang-size-requires hang-label-requires returns)

@@ -1,0 +1,92 @@
+// Walks: from a cell to its root along the parents, at most `most` steps.
+ghost use mathlib.Core.Path.{_≡_};
+ghost use Rattle.forest.specs.Arrays.{parentIn, labelIn, parentAtIn, walkOf, walkAtOf, rootsOf, rootsAtOf};
+use super::Walk;
+
+// The cell's parent; a cell beyond the slice stands still.
+fn up(parent: &[u16], cell: u16) -> u16
+    ensures { λ r. ⌜ r ≡ parentIn (now (parent .entry)) cell ⌝ }
+{
+    let at = cell as usize;
+    if at < parent.len() { parent[at] } else { cell }
+}
+
+// The parent at a cut: a step whose label is below the cut is not taken.
+fn up_at<'a>(parent: &'a [u16], label: &'a [u8], cut: u8, cell: u16) -> u16
+    ensures { λ r. ⌜ r ≡ parentAtIn (now (parent .entry)) (now (label .entry)) cut cell ⌝ }
+{
+    if label_of(label, cell) < cut {
+        return cell;
+    }
+    up(parent, cell)
+}
+
+// A walk without a cut.
+pub fn walk(parent: &[u16], most: u8, cell: u16) -> Walk
+    ensures { λ r. ⌜ r ≡ walkOf (now (parent .entry)) most cell ⌝ }
+{
+    let mut at = cell;
+    let mut steps: u8 = 0;
+    while steps < most {
+        let next = up(parent, at);
+        if next == at {
+            return Walk { root: at, steps };
+        }
+        at = next;
+        steps += 1;
+    }
+    Walk { root: at, steps }
+}
+
+// A walk at a cut.
+pub fn walk_at<'a>(parent: &'a [u16], label: &'a [u8], most: u8, cut: u8, cell: u16) -> Walk
+    ensures { λ r. ⌜ r ≡ walkAtOf (now (parent .entry)) (now (label .entry)) most cut cell ⌝ }
+{
+    let mut at = cell;
+    let mut steps: u8 = 0;
+    while steps < most {
+        let next = up_at(parent, label, cut, at);
+        if next == at {
+            return Walk { root: at, steps };
+        }
+        at = next;
+        steps += 1;
+    }
+    Walk { root: at, steps }
+}
+
+// The root of each cell.
+pub fn roots(parent: &[u16], most: u8) -> [u16; 1024]
+    ensures { λ r. ⌜ r ≡ rootsOf (now (parent .entry)) most 1024 ⌝ }
+{
+    let mut root = [0u16; 1024];
+    let mut cell: u16 = 0;
+    while cell < 1024 {
+        let w = walk(parent, most, cell);
+        root[cell as usize] = w.root;
+        cell += 1;
+    }
+    root
+}
+
+// The root of each cell at a cut.
+pub fn roots_at<'a>(parent: &'a [u16], label: &'a [u8], most: u8, cut: u8) -> [u16; 1024]
+    ensures { λ r. ⌜ r ≡ rootsAtOf (now (parent .entry)) (now (label .entry)) most cut 1024 ⌝ }
+{
+    let mut root = [0u16; 1024];
+    let mut cell: u16 = 0;
+    while cell < 1024 {
+        let w = walk_at(parent, label, most, cut, cell);
+        root[cell as usize] = w.root;
+        cell += 1;
+    }
+    root
+}
+
+// The label of the cell's step to its parent.
+fn label_of(label: &[u8], cell: u16) -> u8
+    ensures { λ r. ⌜ r ≡ labelIn (now (label .entry)) cell ⌝ }
+{
+    let at = cell as usize;
+    if at < label.len() { label[at] } else { 0 }
+}
