@@ -1,0 +1,5 @@
+pub mod Bytes
+pub mod Cases
+pub mod Files
+pub mod Laws
+pub mod Parts
