@@ -59,7 +59,7 @@ united-step : {P : ℕ → Type 0} {k most : ℕ} {f f′ : Forest} {x : Labelle
 united-step (kept _) p on c = on c
 united-step {x} (hangs _ h) p on c = hung-step (x .label) h p c (on c)
 
-cond-same : (t : Bool) (c : ℕ) → cond t c c ≡ c
+pub cond-same : (t : Bool) (c : ℕ) → cond t c c ≡ c
 cond-same true c = refl
 cond-same false c = refl
 

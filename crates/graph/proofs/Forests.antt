@@ -46,7 +46,7 @@ over-le size a b e = go (decLe (size b) (size a))
     go (yes h) = h
     go (no h) = absurd (true≢false (rw (lt-ltb (size a) (size b) (omega arith)) at e))
 
-nothing-linked : {a b : ℕ} → Linked a b [] → ⊥
+pub nothing-linked : {a b : ℕ} → Linked a b [] → ⊥
 nothing-linked = elim [ ]
 
 between-chained : {ls : List Link} {a b : ℕ} {l : Link} → Between a b l → Chained ls (l .one) (l .other) → Chained ls a b

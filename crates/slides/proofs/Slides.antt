@@ -92,7 +92,8 @@ slide-last time n = refl
 -- ---- chunks and places
 
 module _ (clock : Clock) (wide : 1 ≤ clock .n) where
-  place-rest : (slide : ℕ) → placeOf clock slide ≡ slide % clock .n
+  -- a place is what a slide leaves by n
+  pub place-rest : (slide : ℕ) → placeOf clock slide ≡ slide % clock .n
   unfolding placeOf
   place-rest slide = rw (ne-eqb (clock .n) 0 (λ e. omega arith))
 
