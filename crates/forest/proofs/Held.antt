@@ -19,9 +19,9 @@ use Rattle.graph.specs.Forest.{Forest, Labelled, climb, fresh, put, hung, goesU
 use Rattle.graph.specs.Link.{Link}
 use Rattle.forest.specs.declared.Walk.{Walk}
 use Rattle.forest.specs.declared.Hang.{Hang}
-use Rattle.forest.specs.Arrays.{parentIn, sizeIn, labelIn, held, freshParents, freshSizes, freshLabels, walked, walkOf, walkAtOf, together, under, hangRoots, hangOf, hungParents, hungSizes, hungLabels, labelsWithin}
+use Rattle.forest.specs.Arrays.{parentIn, sizeIn, labelIn, parentAtIn, held, freshParents, freshSizes, freshLabels, walked, walkOf, walkAtOf, rootsOf, rootsAtOf, together, under, hangRoots, hangOf, hungParents, hungSizes, hungLabels, United, labelsWithin}
 use Rattle.forest.proofs.Every.{every-each, each-every}
-use Rattle.forest.proofs.Fill.{getD-countFrom, length-countFrom}
+use Rattle.forest.proofs.Fill.{getD-countFrom, length-countFrom, getD-each}
 use Rattle.forest.proofs.Ranged.{Ranged}
 
 -- ---- fresh lists
@@ -52,6 +52,13 @@ module _ (ps ss ls : List ℕ) (most : ℕ) where
   pub held-walkAt : (cut c : ℕ) → walkAtOf ps ls most cut c ≡ walked (walkAt most (held ps ss ls) cut c)
   unfolding walkAt
   held-walkAt cut c = refl
+
+-- entry c of the roots is the root of c
+pub roots-entry : (ps : List ℕ) (most n c d : ℕ) → c < n → getD (rootsOf ps most n) c d ≡ walkOf ps most c .root
+roots-entry ps most n = getD-each (λ c. climb (parentIn ps) most c .root) n
+
+pub rootsAt-entry : (ps ls : List ℕ) (most cut n c d : ℕ) → c < n → getD (rootsAtOf ps ls most cut n) c d ≡ walkAtOf ps ls most cut c .root
+rootsAt-entry ps ls most cut n = getD-each (λ c. climb (parentAtIn ps ls cut) most c .root) n
 
 -- a walk stays among the cells
 cond-root : {n : ℕ} (t : Bool) (v w : graph.Walk) → v .root < n → w .root < n → cond t v w .root < n
@@ -84,6 +91,13 @@ label-put n child h none = fun-ext (λ x. both (eqb x child))
     both : (t : Bool) → _≡_ {A = ℕ} 0 (cond t 0 0)
     both true = refl
     both false = refl
+
+pub no-labels : (h : Hang) → hungLabels [] h 0 ≡ []
+no-labels h = picked (h .apart)
+  where
+    picked : (t : Bool) → cond t (set {A = ℕ} [] (h .child) 0) [] ≡ []
+    picked true = refl
+    picked false = refl
 
 -- the forest that the lists hold after a link
 abbrev pub after : List ℕ → List ℕ → List ℕ → ℕ → Hang → Forest
@@ -152,6 +166,11 @@ module _ {n : ℕ} (ps ss ls : List ℕ) (label : ℕ) (r : Ranged n ps ss) (nar
   pub held-unite : after ps ss ls label (hangOf ps ss most (x .one) (x .other)) ≡ unite most (held ps ss ls) (record { label = label; link = x })
   unfolding unite
   held-unite = after-roots ps ss ls label r narrow l _ _ (root (x .one) one) (root (x .other) other)
+
+  -- as the contract of `unite` says it
+  pub held-united : {ps′ ss′ ls′ : List ℕ} → United ps ss ls most (x .one) (x .other) label ps′ ss′ ls′
+      → held ps′ ss′ ls′ ≡ unite most (held ps ss ls) (record { label = label; link = x })
+  held-united u = (λ i. held (u .parents i) (u .sizes i) (u .labels i)) ∙ held-unite
 
   among : Among n (unite most (held ps ss ls) (record { label = label; link = x }))
   unfolding unite

@@ -93,11 +93,11 @@ hungSizes ss h = cond (h .apart) (set ss (h .top) (h .size)) ss
 abbrev pub hungLabels : List ℕ → Hang → ℕ → List ℕ
 hungLabels ls h label = cond (h .apart) (set ls (h .child) label) ls
 
--- what unite leaves of parents, sizes and labels
-pub record United (ps ss ls : List ℕ) (h : Hang) (label : ℕ) (ps′ ss′ ls′ : List ℕ) : Type 0 where
-  pub parents : ps′ ≡ hungParents ps h
-  pub sizes : ss′ ≡ hungSizes ss h
-  pub labels : ls′ ≡ hungLabels ls h label
+-- what one link more, with the label, makes of parents, sizes and labels
+pub record United (ps ss ls : List ℕ) (most one other label : ℕ) (ps′ ss′ ls′ : List ℕ) : Type 0 where
+  pub parents : ps′ ≡ hungParents ps (hangOf ps ss most one other)
+  pub sizes : ss′ ≡ hungSizes ss (hangOf ps ss most one other)
+  pub labels : ls′ ≡ hungLabels ls (hangOf ps ss most one other) label
 
 -- f holds of every entry of the list, given its place and the entry; the first place is i
 unfoldable pub every : (ℕ → ℕ → Bool) → ℕ → List ℕ → Bool

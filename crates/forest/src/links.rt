@@ -53,7 +53,8 @@ pub fn unite(
     one: u16,
     other: u16,
 )
-    ensures { λ _. ⌜ United (now (parent .entry)) (now (size .entry)) (now (label .entry)) (hangOf (now (parent .entry)) (now (size .entry)) most one other) place (now (parent .exit)) (now (size .exit)) (now (label .exit)) ⌝ }
+    ensures { λ _. ⌜ United (now (parent .entry)) (now (size .entry)) (now (label .entry)) most one other place
+        (now (parent .exit)) (now (size .exit)) (now (label .exit)) ⌝ }
 {
     let h = hang(parent, size, most, one, other);
     hang_parent(parent, h);
@@ -95,6 +96,7 @@ fn goes_under(size: &[u16], a: u16, b: u16) -> bool
     b < a
 }
 
+// The child under the top, with the size of both trees.
 fn hang_under(size: &[u16], child: u16, top: u16) -> Hang
     ensures { λ r. ⌜ r ≡ under (now (size .entry)) child top ⌝ }
 {

@@ -32,10 +32,10 @@ loop-less : tie.Need-loop-less Inv-loop μ-loop
 loop-less c = omega arith
 
 loop-again : tie.Need-loop-again Inv-loop μ-loop
-loop-again c = fill-one (c .before .loop .inv) (c .loop-test .taken) refl
+loop-again c = fill-one (c .before .loop .inv) (omega arith) refl
 
 returns : tie.Need-returns Inv-loop μ-loop
-returns c = fill-all (c .before .loop .inv) (c .loop-test .left) (length-countFrom 0 1024) (λ k h. getD-countFrom 0 1024 k 0 h ∙ zero-add k)
+returns c = fill-all (c .before .loop .inv) (omega arith) (length-countFrom 0 1024) (λ k h. getD-countFrom 0 1024 k 0 h ∙ zero-add k)
 
 pub fresh-parents-spec : {M : Type 1} → statement M
 fresh-parents-spec =

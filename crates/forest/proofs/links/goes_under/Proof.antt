@@ -1,15 +1,14 @@
 -- `forest::links::goes_under` meets its contract: the sizes decide, and on equal sizes the numbers.
-use borrow.Author.Needs.{needs}
 use borrow.Author.Tests.{lt-ltb, le-ltb, eq-eqb, ne-eqb}
 use native.Mathlib.Omega.{arith}
 use Rattle.forest.proofs.links.goes_under.Statement.{statement}
 use Rattle.forest.proofs.links.goes_under.Tie as tie
 
 size-of-requires : tie.Need-size-of-requires
-size-of-requires c κs = search needs
+size-of-requires c κs = tt
 
 size-of-requires-2 : tie.Need-size-of-requires-2
-size-of-requires-2 c κs = search needs
+size-of-requires-2 c κs = tt
 
 returns : tie.Need-returns
 returns c = simp (← c .before .before .size-of .ensures, ← c .before .size-of2 .ensures, lt-ltb _ _ (c .if1 .taken))

@@ -4,7 +4,7 @@ use Rattle.forest.proofs.links.hang_label.Statement.{statement}
 use Rattle.forest.proofs.links.hang_label.Tie as tie
 
 store-label-requires : tie.Need-store-label-requires
-store-label-requires c κs = search needs
+store-label-requires c κs = tt
 
 returns : tie.Need-returns
 returns c = rw (c .before .before .if1 .taken) (c .store-label .ensures)

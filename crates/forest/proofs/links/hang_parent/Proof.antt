@@ -4,7 +4,7 @@ use Rattle.forest.proofs.links.hang_parent.Statement.{statement}
 use Rattle.forest.proofs.links.hang_parent.Tie as tie
 
 store-requires : tie.Need-store-requires
-store-requires c κs = search needs
+store-requires c κs = tt
 
 returns : tie.Need-returns
 returns c = rw (c .before .before .if1 .taken) (c .store .ensures)

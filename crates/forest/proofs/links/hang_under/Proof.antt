@@ -1,16 +1,15 @@
 -- `forest::links::hang_under` meets its contract: the sum of the two sizes, modulo 2 ^ 16.
-use borrow.Author.Needs.{needs}
 use Rattle.forest.proofs.links.hang_under.Statement.{statement}
 use Rattle.forest.proofs.links.hang_under.Tie as tie
 
 size-of-requires : tie.Need-size-of-requires
-size-of-requires c κs = search needs
+size-of-requires c κs = tt
 
 size-of-requires-2 : tie.Need-size-of-requires-2
-size-of-requires-2 c κs = search needs
+size-of-requires-2 c κs = tt
 
 wrapping-add-u16-requires : tie.Need-wrapping-add-u16-requires
-wrapping-add-u16-requires c κs = search needs
+wrapping-add-u16-requires c κs = tt
 
 returns : tie.Need-returns
 returns c = rw (c .wrapping-add-u16 .ensures, c .before .before .size-of .ensures, c .before .size-of2 .ensures)

@@ -1,6 +1,5 @@
 -- `forest::soundness::ends_from` meets its contract: the loop of a walk (proofs/Climb.antt), and whether its root is one.
 use Prim.Native.Nat.{_-_}
-use borrow.Author.Needs.{needs}
 use borrow.Author.Tests.{eq-eqb}
 use mathlib.Core.Path.{sym, ap, _∙_}
 use native.Mathlib.Omega.{arith}
@@ -20,7 +19,7 @@ loop-holds : tie.Need-loop-holds Inv-loop μ-loop
 loop-holds c = begins _ _ _
 
 up-requires : tie.Need-up-requires Inv-loop μ-loop
-up-requires c κs = search needs
+up-requires c κs = tt
 
 returns : tie.Need-returns Inv-loop μ-loop
 returns c =
@@ -37,7 +36,7 @@ loop-again : tie.Need-loop-again Inv-loop μ-loop
 loop-again c = goes _ _ _ (c .before .before .before .loop .inv) (c .before .up .ensures) (c .if1 .left) (c .before .before .loop-test .taken)
 
 up-requires-2 : tie.Need-up-requires-2 Inv-loop μ-loop
-up-requires-2 c κs = search needs
+up-requires-2 c κs = tt
 
 returns-2 : tie.Need-returns-2 Inv-loop μ-loop
 returns-2 c =

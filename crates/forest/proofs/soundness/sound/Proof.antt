@@ -1,7 +1,6 @@
 -- `forest::soundness::sound` meets its contract: each test is one of the definition's. Where the sizes double, every walk
 -- ends (proofs/Doubling.antt); otherwise the walks decide, as the definition says.
 use Prim.Native.Nat.{_+_}
-use borrow.Author.Needs.{needs}
 use borrow.Author.Tests.{eq-eqb, ne-eqb, not-true, not-false, leb-true}
 use mathlib.Core.Path.{_≡_, sym, _∙_}
 use mathlib.Core.Bool.{true, _&&_}
@@ -31,7 +30,7 @@ returns : tie.Need-returns
 returns c = simp (ne-eqb _ _ (c .if1 .taken))
 
 all-within-requires : tie.Need-all-within-requires
-all-within-requires c κs = search needs
+all-within-requires c κs = tt
 
 returns-2 : tie.Need-returns-2
 returns-2 c = simp (eq-eqb _ _ (long (c .before .before)), sym (c .before .all-within .ensures) ∙ not-true _ (c .if2 .taken))
@@ -40,13 +39,13 @@ add-all-within : tie.Need-add-all-within
 add-all-within c = omega arith
 
 all-within-requires-2 : tie.Need-all-within-requires-2
-all-within-requires-2 c κs = search needs
+all-within-requires-2 c κs = tt
 
 returns-3 : tie.Need-returns-3
 returns-3 c = simp (eq-eqb _ _ (long (c .before .before .before .before)), parents (c .before .before), sym (c .before .all-within2 .ensures) ∙ not-true _ (c .if3 .taken))
 
 reaches-requires : tie.Need-reaches-requires
-reaches-requires c κs = search needs
+reaches-requires c κs = tt
 
 doubles-requires : tie.Need-doubles-requires
 doubles-requires c κs = (long (c .before .before .before .before .before .before), parents (c .before .before .before .before))
@@ -59,7 +58,7 @@ returns-4 c =
     simp (eq-eqb _ _ (long (e .before .before .before .before)), parents (e .before .before), sizes e, doubles-end _ _ _ (ranges e) doubles reaches)
 
 walks-end-requires : tie.Need-walks-end-requires
-walks-end-requires c κs = search needs
+walks-end-requires c κs = tt
 
 returns-5 : tie.Need-returns-5
 returns-5 c =

@@ -1,6 +1,5 @@
 -- `forest::walks::walk` meets its contract: the loop of a walk (proofs/Climb.antt), by the parents.
 use Prim.Native.Nat.{_-_}
-use borrow.Author.Needs.{needs}
 use native.Mathlib.Omega.{arith}
 use Rattle.forest.specs.Arrays.{parentIn}
 use Rattle.forest.proofs.Climb.{Reached, begins, stays, goes, ended}
@@ -17,7 +16,7 @@ loop-holds : tie.Need-loop-holds Inv-loop μ-loop
 loop-holds c = begins _ _ _
 
 up-requires : tie.Need-up-requires Inv-loop μ-loop
-up-requires c κs = search needs
+up-requires c κs = tt
 
 returns : tie.Need-returns Inv-loop μ-loop
 returns c = stays _ _ _ (c .before .before .before .loop .inv) (c .before .up .ensures) (c .if1 .taken)
