@@ -48,7 +48,7 @@ pub fn labels_within(label: &[u8], bound: u8) -> bool
 }
 
 // Whether each number is at least low and below the end.
-fn all_within(numbers: &[u16], low: usize, end: usize) -> bool
+pub fn all_within(numbers: &[u16], low: usize, end: usize) -> bool
     ensures { λ r. ⌜ r ≡ every (within low end) 0 (now (numbers .entry)) ⌝ }
 {
     let mut fine = true;

@@ -1,5 +1,6 @@
 pub mod Chains
 pub mod Cut
+pub mod Distinct
 pub mod Fewest
 pub mod Finder
 pub mod Forests

@@ -14,7 +14,7 @@ use Rattle.graph.specs.Forest.{Forest, fresh, put, hung}
 use Rattle.graph.proofs.Walks.{Doubles, put-here, put-other, put-cases}
 
 -- the sum of g below n
-pub total : (ℕ → ℕ) → ℕ → ℕ
+unfoldable pub total : (ℕ → ℕ) → ℕ → ℕ
 total g zero = 0
 total g (suc n) = total g n + g n
 
@@ -23,7 +23,7 @@ unfolding total
 total-same g h zero e = refl
 total-same g h (suc n) e = rw (total-same g h n (λ c l. e c (omega arith)), e n (le-refl (suc n)))
 
-total-put : (g : ℕ → ℕ) (c v n : ℕ) → c < n → total (put c v g) n + g c ≡ total g n + v
+pub total-put : (g : ℕ → ℕ) (c v n : ℕ) → c < n → total (put c v g) n + g c ≡ total g n + v
 unfolding total
 total-put g c v zero l = absurd (omega arith)
 total-put g c v (suc n) l = go (ℕ-discrete n c) (λ l. total-put g c v n l)

@@ -1,0 +1,68 @@
+-- `book::numbers::link_number` meets its contract: each test is one check of the definition's, two of them that of number 3.
+use mathlib.Core.Path.{_≡_, sym, _∙_}
+use mathlib.Core.Bool.{true}
+use mathlib.Core.List.{[], _∷_}
+use borrow.Author.Needs.{needs}
+use borrow.Author.Tests.{lt-ltb, le-ltb, le-leb, lt-leb, not-true, not-false}
+use lib.Dec.{ltb}
+use Rattle.slides.specs.Clock.{notBefore}
+use Rattle.book.specs.Calls.{firstOf, unless, has, logPlaces, linkNumberIn}
+use Rattle.book.proofs.Checks.{passes, fails, last-passes, both-cells, first-no-cell, second-no-cell, has-length}
+use Rattle.book.proofs.numbers.link_number.Statement.{statement}
+use Rattle.book.proofs.numbers.link_number.Tie as tie
+
+-- the checks that were passed, at the place where the last of them was
+ordered : (c : tie.Else1) → c .before .before .args .ordered ≡ true
+ordered c = not-false _ (c .if1 .left)
+
+room : (c : tie.Else2) → has logPlaces (c .before .before .before .args .log .now) ≡ true
+room c = has-length _ _ ∙ le-leb _ _ (c .if2 .left)
+
+returns : tie.Need-returns
+returns c = sym (fails 0 _ (not-true (c .before .before .args .ordered) (c .if1 .taken)))
+
+returns-2 : tie.Need-returns-2
+returns-2 c = sym (passes 1 _ (ordered (c .before)) ∙ fails 5 _ (has-length logPlaces _ ∙ lt-leb _ _ (c .if2 .taken)))
+
+returns-3 : tie.Need-returns-3
+returns-3 c =
+    sym (passes 1 _ (ordered (c .before .before)) ∙ passes 6 _ (room (c .before)) ∙ fails 2 _ (first-no-cell (c .before .before .before .before .args .other) (c .if3 .taken)))
+
+returns-4 : tie.Need-returns-4
+returns-4 c =
+    sym (passes 1 _ (ordered (c .before .before .before)) ∙ passes 6 _ (room (c .before .before)) ∙ fails 2 _ (second-no-cell (c .before .if3 .left) (c .if4 .taken)))
+
+not-before-requires : tie.Need-not-before-requires
+not-before-requires c κs = search needs
+
+-- what is left to check where both are cells
+left : (c : tie.Else4) → (let args = c .before .before .before .before .before .args in linkNumberIn (args .ordered) (args .clock) (args .held) (args .log .now) (args .tick) (args .one) (args .other) ≡ firstOf (unless (notBefore (args .clock) (args .tick)) 4 ∷ unless (ltb (args .held) 256) 5 ∷ []))
+left c =
+    passes 1 _ (ordered (c .before .before .before))
+    ∙ passes 6 _ (room (c .before .before))
+    ∙ passes 3 _ (both-cells (c .before .if3 .left) (c .if4 .left))
+
+later : (c : tie.Else5) → (let args = c .before .before .before .before .before .before .before .args in notBefore (args .clock) (args .tick) ≡ true)
+later c = sym (c .before .not-before .ensures) ∙ not-false _ (c .if5 .left)
+
+returns-5 : tie.Need-returns-5
+returns-5 c = sym (left (c .before .before) ∙ fails 3 _ (sym (c .before .not-before .ensures) ∙ not-true _ (c .if5 .taken)))
+
+returns-6 : tie.Need-returns-6
+returns-6 c = sym (left (c .before .before .before) ∙ passes 4 _ (later (c .before)) ∙ fails 4 _ (le-ltb _ _ (c .if6 .taken)))
+
+returns-7 : tie.Need-returns-7
+returns-7 c = sym (left (c .before .before .before) ∙ passes 4 _ (later (c .before)) ∙ last-passes 5 (lt-ltb _ _ (c .if6 .left)))
+
+pub link-number-spec : {M : Type 1} → statement M
+link-number-spec =
+    tie.close
+    (tie.spec
+    returns
+    returns-2
+    returns-3
+    returns-4
+    not-before-requires
+    returns-5
+    returns-6
+    returns-7)

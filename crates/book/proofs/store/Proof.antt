@@ -1,0 +1,125 @@
+-- `book::store` meets its contract: the spot is the open slide's, and each store is one of the definition's.
+use Prim.Native.Nat.{_<_}
+use mathlib.Core.Path.{_≡_, refl, sym, ap, _∙_}
+use native.Mathlib.Omega.{arith}
+use borrow.Author.Needs.{needs}
+use lib.ListN.{getD, length-set}
+use Rattle.slides.specs.Clock.{chunkOf, placeOf}
+use Rattle.book.specs.Log.{halfOf, spotOf}
+use Rattle.book.specs.Calls.{openSpot, linkStored}
+use Rattle.book.proofs.store.Statement.{statement}
+use Rattle.book.proofs.store.Tie as tie
+
+abbrev entry : tie.After-spot → tie.Start
+entry c = c .before .before .before .before
+
+spot-is : (c : tie.After-spot) → c .spot .result ≡ openSpot (entry c .args .book)
+spot-is c =
+    let clock = entry c .args .book .clock in
+    c .spot .ensures ∙ ap (λ slide. spotOf (halfOf (chunkOf clock slide)) (placeOf clock slide)) (c .before .open-slide .ensures)
+
+-- there is room
+low : (c : tie.After-spot) → c .spot .result < 32
+low c = rw (spot-is c) (entry c .pre .spot)
+
+few : (c : tie.After-spot) → getD (entry c .args .book .counts) (c .spot .result) 0 < 256
+few c = omega (arith, ap (λ spot. getD (entry c .args .book .counts) spot 0) (spot-is c), entry c .pre .few)
+
+open-slide-requires : tie.Need-open-slide-requires
+open-slide-requires c κs = search needs
+
+spot-requires : tie.Need-spot-requires
+spot-requires c κs = search needs
+
+mul-count : tie.Need-mul-count
+mul-count c = omega (arith, low c)
+
+element-copy-out-count : tie.Need-element-copy-out-count
+element-copy-out-count c = omega (arith, low c)
+
+mul-at : tie.Need-mul-at
+mul-at c = omega (arith, low (c .before))
+
+cast-at : tie.Need-cast-at
+cast-at c = search needs
+
+cast-at-2 : tie.Need-cast-at-2
+cast-at-2 c = search needs
+
+add-at : tie.Need-add-at
+add-at c = omega (arith, few (c .before))
+
+add-at-2 : tie.Need-add-at-2
+add-at-2 c = omega (arith, low (c .before), few (c .before))
+
+mul-log : tie.Need-mul-log
+mul-log c = omega (arith, low (c .before), few (c .before))
+
+slice-write-log : tie.Need-slice-write-log
+slice-write-log c = omega (arith, low (c .before), few (c .before), entry (c .before) .pre .long)
+
+add-log : tie.Need-add-log
+add-log c = omega (arith, low (c .before), few (c .before))
+
+mul-log-2 : tie.Need-mul-log-2
+mul-log-2 c = omega (arith, low (c .before), few (c .before))
+
+slice-write-log-2 : tie.Need-slice-write-log-2
+slice-write-log-2 c = simp length-set (omega (arith, low (c .before), few (c .before), entry (c .before) .pre .long))
+
+add-kept : tie.Need-add-kept
+add-kept c = omega (arith, few (c .before))
+
+mul-kept : tie.Need-mul-kept
+mul-kept c = omega (arith, low (c .before))
+
+element-write-kept : tie.Need-element-write-kept
+element-write-kept c = omega (arith, low (c .before))
+
+hang-requires : tie.Need-hang-requires
+hang-requires c κs = search needs
+
+hang-parent-requires : tie.Need-hang-parent-requires
+hang-parent-requires c κs = search needs
+
+hang-size-requires : tie.Need-hang-size-requires
+hang-size-requires c κs = search needs
+
+same-length : tie.Need-same-length
+same-length c = simp length-set
+
+returns : tie.Need-returns
+unfolding linkStored
+returns c =
+    let spot = spot-is (c .before .before .before .before .before .before .before .before .before .before .before) in
+    record {
+      answered = rw (c .hang-size .ensures, c .before .before .hang-parent .ensures, c .before .before .before .before .hang .ensures, spot);
+      logged = rw spot;
+    }
+
+pub store-spec : {M : Type 1} → statement M
+store-spec =
+    tie.close
+    (tie.spec
+    open-slide-requires
+    spot-requires
+    mul-count
+    element-copy-out-count
+    mul-at
+    cast-at
+    cast-at-2
+    add-at
+    add-at-2
+    mul-log
+    slice-write-log
+    add-log
+    mul-log-2
+    slice-write-log-2
+    add-kept
+    mul-kept
+    element-write-kept
+    hang-requires
+    hang-parent-requires
+    hang-size-requires
+    same-length
+    returns)

@@ -1,0 +1,67 @@
+// The number of each call: the first check that fails, in the order of document 01's table, or 0.
+use settings::Settings;
+use slides::Clock;
+ghost use mathlib.Core.Path.{_≡_};
+ghost use Rattle.book.specs.Calls.{openingNumber, linkNumberIn, clockNumberIn};
+
+pub fn opening_number(s: Settings, log: &[u16]) -> u8
+    ensures { λ r. ⌜ r ≡ openingNumber s (now (log .entry)) ⌝ }
+{
+    let number = settings::judge(s);
+    if number != 0 {
+        return number;
+    }
+    if log.len() < 16384 {
+        return 6;
+    }
+    0
+}
+
+// Given whether the book is in order, and how many links it holds in the link's slide.
+pub fn link_number(
+    ordered: bool,
+    clock: Clock,
+    held: u16,
+    log: &[u16],
+    tick: u32,
+    one: u16,
+    other: u16,
+) -> u8
+    ensures { λ r. ⌜ r ≡ linkNumberIn ordered clock held (now (log .entry)) tick one other ⌝ }
+{
+    if !ordered {
+        return 1;
+    }
+    if log.len() < 16384 {
+        return 6;
+    }
+    if 1024 <= one {
+        return 3;
+    }
+    if 1024 <= other {
+        return 3;
+    }
+    if !slides::not_before(clock, tick) {
+        return 4;
+    }
+    if 256 <= held {
+        return 5;
+    }
+    0
+}
+
+// Given whether the book is in order.
+pub fn clock_number(ordered: bool, clock: Clock, log: &[u16], tick: u32) -> u8
+    ensures { λ r. ⌜ r ≡ clockNumberIn ordered clock (now (log .entry)) tick ⌝ }
+{
+    if !ordered {
+        return 1;
+    }
+    if log.len() < 16384 {
+        return 6;
+    }
+    if !slides::not_before(clock, tick) {
+        return 4;
+    }
+    0
+}

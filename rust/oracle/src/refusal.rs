@@ -1,0 +1,54 @@
+//! "Numbers a call can give".
+
+/// The refusals of the table; each carries the table's number.
+#[derive(Clone, Copy, Debug, PartialEq, Eq)]
+pub enum Refusal {
+    /// The book was never opened.
+    NeverOpened = 1,
+    /// n, B or mounting outside the stated values.
+    Settings = 2,
+    /// A cell is 1024 or more.
+    Cell = 3,
+    /// The tick is before the book's time.
+    Tick = 4,
+    /// The link's slide already holds 256.
+    SlideFull = 5,
+    /// A lent buffer is too short.
+    Buffer = 6,
+    /// No trail.
+    NoTrail = 7,
+    /// The chain would have more than 1,024 cells.
+    LongChain = 8,
+    /// The length of the file, or of the writer's records.
+    Length = 9,
+    /// The last four bytes are not KERB.
+    Letters = 10,
+    /// Offset not 8m, or m not (length - 24) / 8.
+    Trailer = 11,
+    /// A pad byte is not zero.
+    Pad = 12,
+}
+
+impl Refusal {
+    /// The number in the table.
+    pub fn number(self) -> u32 {
+        self as u32
+    }
+}
+
+/// The number a call gave: 0 when it was done.
+pub fn number<T>(answer: &Result<T, Refusal>) -> u32 {
+    match answer {
+        Ok(_) => 0,
+        Err(refusal) => refusal.number(),
+    }
+}
+
+/// The refusal when a condition of the table is met.
+pub(crate) fn refuse_if(condition: bool, refusal: Refusal) -> Result<(), Refusal> {
+    if condition {
+        Err(refusal)
+    } else {
+        Ok(())
+    }
+}

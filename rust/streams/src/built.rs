@@ -1,0 +1,435 @@
+//! Built streams: the ends of the ranges that chance does not reach.
+//!
+//! - [`deep_walks`]: 10 steps in a walk of either forest, 40 in all for a cell
+//!   with itself and 38 for two different cells;
+//! - [`zigzag`]: 1,023 groups crossed one after the other;
+//! - [`long_chain`]: a chain of 1,023 links;
+//! - [`grid`]: many chains with the fewest links;
+//! - [`full_log`]: every slide of two chunks full;
+//! - [`last_ticks`]: the last slides of all, up to slide 4,294,967,295;
+//! - [`all`]: all of these for all n and both mountings.
+
+use crate::call::Call;
+use crate::dice::Dice;
+use oracle::{in_lorrys_numbers, Settings, CELLS, CHAIN_PLACES, LINKS_PER_SLIDE, LOG_PLACES};
+
+/// A link in the lorry's numbers.
+type Pair = (u32, u32);
+
+/// Calls written down one after the other, in slides and the lorry's numbers.
+struct Script {
+    settings: Settings,
+    dice: Dice,
+    calls: Vec<Call>,
+}
+
+impl Script {
+    fn opened(settings: Settings, seed: u64) -> Script {
+        let opening = Call::Opening {
+            settings,
+            log_places: LOG_PLACES,
+        };
+        Script {
+            settings,
+            dice: Dice::new(seed),
+            calls: vec![opening],
+        }
+    }
+
+    fn n(&self) -> u64 {
+        u64::from(self.settings.n)
+    }
+
+    /// The first tick of a slide.
+    fn tick(&self, slide: u64) -> u32 {
+        let tick = u64::from(self.settings.t0) + slide * u64::from(self.settings.b);
+        u32::try_from(tick).expect("built streams stay within the ticks")
+    }
+
+    fn clock(&mut self, slide: u64) {
+        self.calls.push(Call::Clock {
+            tick: self.tick(slide),
+            log_places: LOG_PLACES,
+        });
+    }
+
+    fn link(&mut self, slide: u64, pair: Pair) {
+        let mounting = self.settings.mounting;
+        self.calls.push(Call::Link {
+            tick: self.tick(slide),
+            a: in_lorrys_numbers(pair.0, mounting),
+            b: in_lorrys_numbers(pair.1, mounting),
+            log_places: LOG_PLACES,
+        });
+    }
+
+    /// The links in their order over so many slides, as evenly as can be.
+    fn links(&mut self, first_slide: u64, slides: u64, pairs: &[Pair]) {
+        for (place, &pair) in pairs.iter().enumerate() {
+            let slide = place as u64 * slides / pairs.len() as u64;
+            self.link(first_slide + slide, pair);
+        }
+    }
+
+    fn joined(&mut self, first: u32, second: u32) {
+        self.calls.push(Call::Joined { first, second });
+    }
+
+    fn chain(&mut self, first: u32, second: u32) {
+        self.calls.push(Call::Chain {
+            first,
+            second,
+            chain_places: CHAIN_PLACES,
+        });
+    }
+
+    /// Both questions, both ways round.
+    fn both_questions(&mut self, first: u32, second: u32) {
+        self.joined(first, second);
+        self.joined(second, first);
+        self.chain(first, second);
+        self.chain(second, first);
+    }
+
+    /// Questions about a cell and some others.
+    fn some_questions(&mut self, cell: u32, cells: &[u32], times: u64) {
+        self.joined(cell, cell);
+        self.chain(cell, cell);
+        for _ in 0..times {
+            let other = self.dice.pick(cells);
+            let another = self.dice.pick(cells);
+            self.joined(cell, other);
+            self.joined(other, another);
+            self.chain(other, another);
+        }
+    }
+
+    /// Closes slide after slide until the window is empty and asks on the way.
+    fn run_out(&mut self, open_slide: u64, ends: Pair, cells: &[u32]) {
+        for slide in open_slide + 1..=open_slide + self.n() + 1 {
+            self.clock(slide);
+            self.both_questions(ends.0, ends.1);
+            self.some_questions(ends.0, cells, 4);
+        }
+    }
+}
+
+/// The most cells, a power of two, that links of so many slides can unite:
+/// 2^j cells take 2^j - 1 links.
+fn cells_for(slides: u64) -> usize {
+    let links = slides as usize * LINKS_PER_SLIDE;
+    let mut cells = 1;
+    while 2 * cells <= CELLS as usize && 2 * cells - 1 <= links {
+        cells *= 2;
+    }
+    cells
+}
+
+/// Links that unite equal sizes only: cells to pairs, pairs to fours, and so
+/// on. Each uniting puts one more step before every cell of the child's tree,
+/// so 2^j cells come to a walk of j steps. Which cells of two trees the link
+/// names makes no difference to the forest; they are drawn.
+fn unite_equal_sizes(cells: &[u32], dice: &mut Dice) -> Vec<Pair> {
+    let mut pairs = Vec::new();
+    let mut size = 1;
+    while size < cells.len() {
+        for two_trees in cells.chunks(2 * size) {
+            let (left, right) = two_trees.split_at(size);
+            pairs.push((dice.pick(left), dice.pick(right)));
+        }
+        size *= 2;
+    }
+    pairs
+}
+
+/// The cell with the longest walk in the tree of [`unite_equal_sizes`]. The
+/// root of each tree is its smallest cell; of two equal trees the one with the
+/// larger root becomes the child, so the longest walk lies there.
+fn deepest(cells: &[u32]) -> u32 {
+    if cells.len() == 1 {
+        return cells[0];
+    }
+    let (left, right) = cells.split_at(cells.len() / 2);
+    if left.iter().min() > right.iter().min() {
+        deepest(left)
+    } else {
+        deepest(right)
+    }
+}
+
+/// Trees as deep as links of the slides allow, in both forests: the last
+/// `back` places of one chunk and the first `ahead` places of the next, all
+/// within one window. With 4 and 4 slides (so n from 8 on) both forests unite
+/// all 1,024 cells and the deepest cell, the same in both, walks 10 steps in
+/// each: 40 with itself, and 38 with one that walks 9 and 9.
+///
+/// The backward forest scans the last arrival first, so its links arrive in
+/// the opposite order.
+pub fn deep_walks(settings: Settings, chunk: u64, back: u64, ahead: u64, seed: u64) -> Vec<Call> {
+    let mut script = Script::opened(settings, seed);
+    let n = script.n();
+    assert!(chunk >= 1 && ahead >= 1 && back + ahead <= n);
+    let cells = script.dice.shuffled_cells();
+    let start = chunk * n;
+
+    if back > 0 {
+        let behind = &cells[..cells_for(back)];
+        let mut pairs = unite_equal_sizes(behind, &mut script.dice);
+        pairs.reverse();
+        script.links(start - back, back, &pairs);
+        script.some_questions(deepest(behind), behind, 4);
+        script.clock(start);
+        script.some_questions(deepest(behind), behind, 4);
+    }
+    let before = &cells[..cells_for(ahead)];
+    let pairs = unite_equal_sizes(before, &mut script.dice);
+    script.links(start, ahead, &pairs);
+
+    let deepest = deepest(before);
+    if back == 4 && ahead == 4 {
+        // The deepest cell of both forests, with itself and with all others.
+        for cell in 0..CELLS {
+            script.joined(deepest, cell);
+        }
+    }
+    script.some_questions(deepest, before, 20);
+    script.run_out(start + ahead - 1, (deepest, cells[0]), &cells);
+    script.calls
+}
+
+/// A zigzag: cells 1 2, 3 4, 5 6, ... of some order linked in the last `back`
+/// places of one chunk, 2 3, 4 5, ... in the first `ahead` places of the next.
+/// From 2 and 2 slides on (n from 4 on) it runs through all 1,024 cells, by 512
+/// groups of the backward forest and 511 of the forward forest.
+pub fn zigzag(settings: Settings, chunk: u64, back: u64, ahead: u64, seed: u64) -> Vec<Call> {
+    let mut script = Script::opened(settings, seed);
+    let n = script.n();
+    assert!(chunk >= 1 && back >= 1 && ahead >= 1 && back + ahead <= n);
+    let room = LINKS_PER_SLIDE as u64 * back.min(ahead);
+    let count = (2 * room as usize).min(CELLS as usize);
+    let mut cells = script.dice.shuffled_cells();
+    let others = cells.split_off(count);
+    let start = chunk * n;
+
+    let mut behind: Vec<Pair> = cells.chunks_exact(2).map(|two| (two[0], two[1])).collect();
+    let ahead_cells = &cells[1..];
+    let mut before: Vec<Pair> = ahead_cells
+        .chunks_exact(2)
+        .map(|two| (two[1], two[0]))
+        .collect();
+    script.dice.shuffle(&mut behind);
+    script.dice.shuffle(&mut before);
+    script.links(start - back, back, &behind);
+    script.clock(start);
+    script.links(start, ahead, &before);
+
+    let ends = (cells[0], cells[count - 1]);
+    script.both_questions(ends.0, ends.1);
+    script.both_questions(cells[count / 2], ends.1);
+    if let Some(&other) = others.first() {
+        script.both_questions(ends.0, other);
+    }
+    script.some_questions(ends.0, &cells, 30);
+    script.run_out(start + ahead - 1, ends, &cells);
+    script.calls
+}
+
+/// A path through all 1,024 cells, its 1,023 links in any order over the
+/// window's n slides, which begin at `first_slide`. For n from 4 on.
+pub fn long_chain(settings: Settings, first_slide: u64, seed: u64) -> Vec<Call> {
+    let mut script = Script::opened(settings, seed);
+    let n = script.n();
+    assert!(n >= 4);
+    let cells = script.dice.shuffled_cells();
+    let mut pairs: Vec<Pair> = cells.windows(2).map(|two| (two[0], two[1])).collect();
+    script.dice.shuffle(&mut pairs);
+    script.links(first_slide, n, &pairs);
+
+    let ends = (cells[0], cells[cells.len() - 1]);
+    script.both_questions(ends.0, ends.1);
+    for _ in 0..20 {
+        let first = script.dice.pick(&cells);
+        let second = script.dice.pick(&cells);
+        script.both_questions(first, second);
+    }
+    script.run_out(first_slide + n - 1, ends, &cells);
+    script.calls
+}
+
+/// A grid of cells, each linked with those beside and below it: between most
+/// cells there are many chains with the fewest links, and only their cell
+/// numbers tell which comes first.
+pub fn grid(settings: Settings, first_slide: u64, seed: u64) -> Vec<Call> {
+    let mut script = Script::opened(settings, seed);
+    let n = script.n();
+    let room = n as usize * LINKS_PER_SLIDE;
+    let mut side = 32;
+    while 2 * side * (side - 1) > room {
+        side -= 1;
+    }
+    let cells = script.dice.shuffled_cells();
+    let cell = |row: usize, column: usize| cells[row * side + column];
+    let mut pairs = Vec::new();
+    for row in 0..side {
+        for column in 0..side {
+            if column + 1 < side {
+                pairs.push((cell(row, column), cell(row, column + 1)));
+            }
+            if row + 1 < side {
+                pairs.push((cell(row, column), cell(row + 1, column)));
+            }
+        }
+    }
+    script.dice.shuffle(&mut pairs);
+    script.links(first_slide, n, &pairs);
+
+    let used = &cells[..side * side];
+    let ends = (cell(0, 0), cell(side - 1, side - 1));
+    script.both_questions(ends.0, ends.1);
+    script.both_questions(cell(0, side - 1), cell(side - 1, 0));
+    script.some_questions(ends.0, used, 60);
+    script.run_out(first_slide + n - 1, ends, used);
+    script.calls
+}
+
+/// Every slide of two chunks and of the beginning of a third full, and one
+/// link more each time. The cells of a slide's links lie together, so that
+/// groups stay apart for a while.
+pub fn full_log(settings: Settings, seed: u64) -> Vec<Call> {
+    let mut script = Script::opened(settings, seed);
+    let cells: Vec<u32> = (0..CELLS).collect();
+    let more = script.dice.between(1, script.n());
+    for slide in 0..2 * script.n() + more {
+        let middle = script.dice.below(u64::from(CELLS)) as u32;
+        for _ in 0..LINKS_PER_SLIDE + 1 {
+            let near = |dice: &mut Dice| (middle + dice.below(100) as u32) % CELLS;
+            let pair = (near(&mut script.dice), near(&mut script.dice));
+            script.link(slide, pair);
+        }
+        script.some_questions(middle, &cells, 8);
+        script.both_questions(middle, (middle + 50) % CELLS);
+    }
+    script.calls
+}
+
+/// Slides of one tick, T0 0, and the time jumps to the last slides there are:
+/// k up to 4,294,967,295, so that k + 1 passes 32 bits. Some links in each
+/// slide among a few cells, and questions after each.
+pub fn last_ticks(n: u32, mounting: u32, seed: u64) -> Vec<Call> {
+    let settings = Settings {
+        n,
+        b: 1,
+        mounting,
+        t0: 0,
+    };
+    let mut script = Script::opened(settings, seed);
+    let mut cells = script.dice.shuffled_cells();
+    cells.truncate(10);
+    let last = u64::from(u32::MAX);
+    for slide in last - 3 * u64::from(n)..=last {
+        for _ in 0..script.dice.between(0, 3) {
+            let pair = (script.dice.pick(&cells), script.dice.pick(&cells));
+            script.link(slide, pair);
+        }
+        script.clock(slide);
+        script.some_questions(cells[0], &cells, 5);
+    }
+    script.calls
+}
+
+/// Settings whose slides up to 200 have ticks.
+fn draw_settings(dice: &mut Dice, n: u32, mounting: u32) -> Settings {
+    let b = dice.between(1, 1_000) as u32;
+    let latest = u32::MAX - 200 * b;
+    let any = dice.below(u64::from(latest) + 1) as u32;
+    Settings {
+        n,
+        b,
+        mounting,
+        t0: dice.pick(&[0, any, latest]),
+    }
+}
+
+/// All built streams, each with a name, for all n and both mountings. Deep
+/// walks and zigzags have every number of slides behind and ahead that makes a
+/// difference, with one mounting or the other; the fullest have both.
+pub fn all(seed: u64) -> Vec<(String, Vec<Call>)> {
+    let mut dice = Dice::new(seed);
+    let mut streams = Vec::new();
+    let mut add = |n: u32, mounting: u32, what: &str, build: &dyn Fn(Site) -> Vec<Call>| {
+        let site = Site {
+            settings: draw_settings(&mut dice, n, mounting),
+            chunk: dice.between(1, 5),
+            seed: dice.bits(),
+        };
+        let name = format!("{} n {} mounting {}", what, n, mounting);
+        streams.push((name, build(site)));
+    };
+    for n in 1..=16 {
+        for (place, (back, ahead)) in splits(u64::from(n)).into_iter().enumerate() {
+            let fullest = back == 4 && ahead == 4;
+            for mounting in 1..=2 {
+                if !fullest && (place as u32 + n + mounting) % 2 == 0 {
+                    continue;
+                }
+                add(
+                    n,
+                    mounting,
+                    &format!("deep walks {} {}", back, ahead),
+                    &|at| deep_walks(at.settings, at.chunk, back, ahead, at.seed),
+                );
+                if back >= 1 {
+                    add(n, mounting, &format!("zigzag {} {}", back, ahead), &|at| {
+                        zigzag(at.settings, at.chunk, back, ahead, at.seed)
+                    });
+                }
+            }
+        }
+        for mounting in 1..=2 {
+            if n >= 4 {
+                add(n, mounting, "long chain", &|at| {
+                    long_chain(at.settings, at.any_slide(), at.seed)
+                });
+            }
+            add(n, mounting, "grid", &|at| {
+                grid(at.settings, at.any_slide(), at.seed)
+            });
+            add(n, mounting, "full log", &|at| {
+                full_log(at.settings, at.seed)
+            });
+            add(n, mounting, "last ticks", &|at| {
+                last_ticks(n, mounting, at.seed)
+            });
+        }
+    }
+    streams
+}
+
+/// Where and with what a stream of [`all`] is built.
+struct Site {
+    settings: Settings,
+    chunk: u64,
+    seed: u64,
+}
+
+impl Site {
+    /// A slide at any place, so that windows lie across chunks in every way.
+    fn any_slide(&self) -> u64 {
+        let n = u64::from(self.settings.n);
+        self.chunk * n + self.seed % n
+    }
+}
+
+/// Slides behind and ahead, up to 4 each, within one window of n slides. Three
+/// slides unite no more equal sizes than two.
+fn splits(n: u64) -> Vec<(u64, u64)> {
+    let mut splits = Vec::new();
+    for back in [0, 1, 2, 4] {
+        for ahead in [1, 2, 4] {
+            if back + ahead <= n {
+                splits.push((back, ahead));
+            }
+        }
+    }
+    splits
+}

@@ -1,0 +1,196 @@
+//! A call, and what it gives.
+
+use oracle::{number, Book, Settings, LOG_PLACES};
+
+/// The longest log that a call of these streams lends. Who compares keeps one
+/// log of this length and lends its first `log_places` places; the document
+/// lets no call touch those from 16,384 on.
+pub const MOST_LOG_PLACES: usize = LOG_PLACES + 16;
+
+/// A call. Cells of links are in the unit's numbers, those of questions in the
+/// lorry's. The streams keep bad cells below 65,536 and bad n and mounting
+/// below 256, so that they fit the widths of a link file.
+#[derive(Clone, Debug, PartialEq, Eq)]
+pub enum Call {
+    Opening {
+        settings: Settings,
+        log_places: usize,
+    },
+    Link {
+        tick: u32,
+        a: u32,
+        b: u32,
+        log_places: usize,
+    },
+    Clock {
+        tick: u32,
+        log_places: usize,
+    },
+    Joined {
+        first: u32,
+        second: u32,
+    },
+    Chain {
+        first: u32,
+        second: u32,
+        chain_places: usize,
+    },
+    /// The reader of link files.
+    Read {
+        file: Vec<u8>,
+    },
+    /// The writer of link files.
+    Write {
+        settings: Settings,
+        records: Vec<u8>,
+        output_bytes: usize,
+    },
+    /// The program kerblist.
+    List {
+        file: Vec<u8>,
+    },
+}
+
+/// What a call gave, all result fields and the lent buffer as it is afterwards
+/// (the log aside, whose layout the document leaves open).
+#[derive(Clone, Debug, PartialEq, Eq)]
+pub enum Answer {
+    /// Opening, link and clock.
+    Number {
+        number: u32,
+    },
+    Joined {
+        number: u32,
+        joined: bool,
+        steps: u32,
+    },
+    Chain {
+        number: u32,
+        l: u64,
+        hold: u32,
+        cells: u32,
+        lent: Vec<u16>,
+    },
+    Read {
+        number: u32,
+        settings: Settings,
+        m: u32,
+    },
+    Write {
+        number: u32,
+        output: Vec<u8>,
+    },
+    List {
+        text: String,
+    },
+}
+
+/// A chain buffer as it is lent: no place holds a cell's number, and
+/// neighbouring places differ.
+pub fn lent_places(places: usize) -> Vec<u16> {
+    (0..places).map(|i| 0x8000 | i as u16).collect()
+}
+
+/// An output buffer as it is lent.
+pub fn lent_bytes(bytes: usize) -> Vec<u8> {
+    (0..bytes).map(|i| 0x80 | i as u8).collect()
+}
+
+impl Answer {
+    /// The number of the table; for a listing 0 or the number it prints.
+    pub fn number(&self) -> u32 {
+        match self {
+            Answer::Number { number }
+            | Answer::Joined { number, .. }
+            | Answer::Chain { number, .. }
+            | Answer::Read { number, .. }
+            | Answer::Write { number, .. } => *number,
+            Answer::List { text } => number_in_listing(text),
+        }
+    }
+}
+
+fn number_in_listing(text: &str) -> u32 {
+    let mut words = text.split_whitespace();
+    match (words.next(), words.next()) {
+        (Some("refused"), Some(number)) => number.parse().expect("a number"),
+        _ => 0,
+    }
+}
+
+/// Puts a call to the oracle.
+pub fn ask(book: &mut Book, call: &Call) -> Answer {
+    match call {
+        Call::Opening {
+            settings,
+            log_places,
+        } => Answer::Number {
+            number: number(&book.opening(*settings, *log_places)),
+        },
+        Call::Link {
+            tick,
+            a,
+            b,
+            log_places,
+        } => Answer::Number {
+            number: number(&book.link(*tick, *a, *b, *log_places)),
+        },
+        Call::Clock { tick, log_places } => Answer::Number {
+            number: number(&book.clock(*tick, *log_places)),
+        },
+        Call::Joined { first, second } => ask_joined(book, *first, *second),
+        Call::Chain {
+            first,
+            second,
+            chain_places,
+        } => ask_chain(book, *first, *second, *chain_places),
+        Call::Read { file } => ask_read(file),
+        Call::Write {
+            settings,
+            records,
+            output_bytes,
+        } => ask_write(*settings, records, *output_bytes),
+        Call::List { file } => Answer::List {
+            text: oracle::listing(file),
+        },
+    }
+}
+
+fn ask_joined(book: &Book, first: u32, second: u32) -> Answer {
+    let answer = book.joined(first, second);
+    let fields = answer.unwrap_or_default();
+    Answer::Joined {
+        number: number(&answer),
+        joined: fields.joined,
+        steps: fields.steps,
+    }
+}
+
+fn ask_chain(book: &Book, first: u32, second: u32, places: usize) -> Answer {
+    let mut lent = lent_places(places);
+    let answer = book.chain(first, second, &mut lent);
+    let fields = answer.unwrap_or_default();
+    Answer::Chain {
+        number: number(&answer),
+        l: fields.l,
+        hold: fields.hold,
+        cells: fields.cells,
+        lent,
+    }
+}
+
+fn ask_read(file: &[u8]) -> Answer {
+    let answer = oracle::read(file);
+    let fields = answer.unwrap_or_default();
+    Answer::Read {
+        number: number(&answer),
+        settings: fields.settings,
+        m: fields.m,
+    }
+}
+
+fn ask_write(settings: Settings, records: &[u8], bytes: usize) -> Answer {
+    let mut output = lent_bytes(bytes);
+    let number = number(&oracle::write(settings, records, &mut output));
+    Answer::Write { number, output }
+}

@@ -1,0 +1,539 @@
+//! Random streams: history after history, each with its own settings, cells
+//! and habits, with refused calls in between.
+
+use crate::call::{ask, Call, MOST_LOG_PLACES};
+use crate::dice::Dice;
+use oracle::{
+    in_lorrys_numbers, Book, Refusal, Settings, CELLS, CHAIN_PLACES, LOG_PLACES, RINGS, SECTORS,
+};
+
+/// Which cells a random stream uses.
+#[derive(Clone, Copy, Debug, PartialEq, Eq)]
+pub enum Kind {
+    /// Pools of 4 to 40 cells.
+    Few,
+    /// All 1,024 cells.
+    All,
+    /// Touching cells around a few things that drift, as a lidar sees them.
+    Touching,
+    /// The other three in turn, by chance.
+    Mixed,
+}
+
+/// What the cells of one history are drawn from, in the lorry's numbers.
+#[derive(Clone, Debug)]
+enum Scene {
+    Pool(Vec<u32>),
+    /// The middle cells of the things seen.
+    Things(Vec<u32>),
+}
+
+/// What one history is like.
+#[derive(Clone, Debug)]
+struct Habits {
+    scene: Scene,
+    /// Of 100 calls so many are questions.
+    questions: u64,
+    /// One link or clock call in so many moves the time.
+    moves: u64,
+    /// The time goes from slide to slide and jumps over none.
+    creeps: bool,
+    /// One argument in so many is spoilt; 0 for none.
+    spoils: u64,
+    /// One call in so many begins a burst of links at one tick; 0 for none.
+    bursts: u64,
+    /// Calls until the next opening.
+    calls: u64,
+}
+
+/// An endless random stream.
+#[derive(Clone, Debug)]
+pub struct Random {
+    dice: Dice,
+    kind: Kind,
+    /// Follows the stream, so that times, full slides and jumps are aimed at
+    /// what the book then is.
+    book: Book,
+    habits: Habits,
+    /// Calls of this history still to come.
+    left: u64,
+    /// Links of the burst still to come.
+    burst: u64,
+    /// The history starts with a jump towards the last tick.
+    leap: bool,
+    /// The latest call that was no question found its slide full.
+    full: bool,
+    /// The latest links, in the unit's numbers, for repeats and questions.
+    recent: Vec<(u32, u32)>,
+}
+
+impl Random {
+    /// The stream of a seed. It starts with some calls to a book that was never
+    /// opened.
+    pub fn new(seed: u64, kind: Kind) -> Random {
+        let mut dice = Dice::new(seed);
+        let mut habits = draw_habits(&mut dice, kind);
+        habits.bursts = 0;
+        Random {
+            left: dice.below(20),
+            dice,
+            kind,
+            book: Book::new(),
+            habits,
+            burst: 0,
+            leap: false,
+            full: false,
+            recent: Vec::new(),
+        }
+    }
+
+    /// The settings and the time of the open history. A book that was never
+    /// opened refuses all, whatever is used in their place.
+    fn now(&self) -> (Settings, u32) {
+        match &self.book.history {
+            Some(history) => (history.settings, history.time),
+            None => {
+                let settings = Settings {
+                    n: 4,
+                    b: 10,
+                    mounting: 1,
+                    t0: 100,
+                };
+                (settings, 100)
+            }
+        }
+    }
+
+    fn spoilt(&mut self) -> bool {
+        self.habits.spoils > 0 && self.dice.one_in(self.habits.spoils)
+    }
+
+    fn begin_history(&mut self) -> Call {
+        self.habits = draw_habits(&mut self.dice, self.kind);
+        self.left = self.habits.calls;
+        self.leap = self.dice.one_in(5);
+        self.recent.clear();
+        Call::Opening {
+            settings: draw_settings(&mut self.dice),
+            log_places: long_log(&mut self.dice),
+        }
+    }
+
+    fn draw(&mut self) -> Call {
+        if self.leap {
+            self.leap = false;
+            return self.leap_call();
+        }
+        if self.burst > 0 && !self.dice.one_in(4) {
+            self.burst -= 1;
+            return self.link_call();
+        }
+        if self.habits.bursts > 0 && self.dice.one_in(self.habits.bursts) {
+            self.burst = self.dice.between(200, 300);
+        }
+        if self.dice.below(100) < self.habits.questions {
+            return self.question();
+        }
+        match self.dice.below(20) {
+            0 if self.habits.spoils > 0 => self.bad_opening(),
+            0..=3 => self.clock_call(),
+            _ => self.link_call(),
+        }
+    }
+
+    /// A clock call far ahead, to where only a few slides are left.
+    fn leap_call(&mut self) -> Call {
+        let (settings, time) = self.now();
+        let few_slides = 3 * u64::from(settings.n) * u64::from(settings.b);
+        let back = self.dice.below(few_slides + 1).min(u64::from(u32::MAX));
+        Call::Clock {
+            tick: time.max(u32::MAX - back as u32),
+            log_places: LOG_PLACES,
+        }
+    }
+
+    fn clock_call(&mut self) -> Call {
+        Call::Clock {
+            tick: self.tick(),
+            log_places: self.log_places(),
+        }
+    }
+
+    fn link_call(&mut self) -> Call {
+        let tick = self.tick();
+        let (a, b) = self.link_cells();
+        self.remember(a, b);
+        Call::Link {
+            tick,
+            a: self.spoil_cell(a),
+            b: self.spoil_cell(b),
+            log_places: self.log_places(),
+        }
+    }
+
+    fn question(&mut self) -> Call {
+        let (first, second) = self.question_cells();
+        let first = self.spoil_cell(first);
+        let second = self.spoil_cell(second);
+        if self.dice.one_in(2) {
+            Call::Joined { first, second }
+        } else {
+            Call::Chain {
+                first,
+                second,
+                chain_places: self.chain_places(),
+            }
+        }
+    }
+
+    /// An opening that is refused, so that the old history goes on.
+    fn bad_opening(&mut self) -> Call {
+        let good = draw_settings(&mut self.dice);
+        match self.dice.below(3) {
+            0 => Call::Opening {
+                settings: good,
+                log_places: short_log(&mut self.dice),
+            },
+            1 => Call::Opening {
+                settings: spoil_settings(&mut self.dice, good),
+                log_places: short_log(&mut self.dice),
+            },
+            _ => Call::Opening {
+                settings: spoil_settings(&mut self.dice, good),
+                log_places: long_log(&mut self.dice),
+            },
+        }
+    }
+
+    /// Lets the stream's own book follow the call.
+    fn follow(&mut self, call: &Call) {
+        if matches!(call, Call::Joined { .. } | Call::Chain { .. }) {
+            return;
+        }
+        let number = ask(&mut self.book, call).number();
+        self.full = number == Refusal::SlideFull.number();
+        if self.full && self.dice.one_in(10) {
+            self.burst = 0;
+        }
+        if self.in_last_slide() {
+            // Little can follow, and nothing but refusals once it is full.
+            self.left = self.left.min(if self.full { 10 } else { 100 });
+        }
+    }
+
+    /// Whether no tick is left beyond the open slide.
+    fn in_last_slide(&self) -> bool {
+        let (settings, time) = self.now();
+        settings.slide_of(u32::MAX) == settings.slide_of(time)
+    }
+
+    // Ticks.
+
+    fn tick(&mut self) -> u32 {
+        let (_, time) = self.now();
+        if self.spoilt() {
+            self.old_tick()
+        } else if self.moves_on() {
+            self.later_tick()
+        } else {
+            time
+        }
+    }
+
+    /// Whether the time moves: by habit, and soon where a slide is full.
+    fn moves_on(&mut self) -> bool {
+        if self.full {
+            self.dice.one_in(4)
+        } else {
+            self.burst == 0 && self.dice.one_in(self.habits.moves)
+        }
+    }
+
+    /// A tick before the book's time, where there is one.
+    fn old_tick(&mut self) -> u32 {
+        let (settings, time) = self.now();
+        match self.dice.below(4) {
+            0 => settings.t0.saturating_sub(1),
+            1 => self.dice.below(u64::from(time) + 1) as u32,
+            _ => time.saturating_sub(1),
+        }
+    }
+
+    /// A later tick: by one, to the edges of slides and chunks, out of the
+    /// window, or over chunks.
+    fn later_tick(&mut self) -> u32 {
+        self.drift();
+        let (settings, time) = self.now();
+        let (n, b) = (u64::from(settings.n), u64::from(settings.b));
+        let k = settings.slide_of(time);
+        let next_chunk = (k / n + 1) * n;
+        let start_of = |slide: u64| u64::from(settings.t0) + slide * b;
+        let ways = if self.habits.creeps { 8 } else { 14 };
+        let tick = match self.dice.below(ways) {
+            0 | 1 => u64::from(time) + 1,
+            2 => start_of(k + 1) - 1,
+            3..=5 => start_of(k + 1),
+            6 | 7 => start_of(k + 1) + self.dice.below(b),
+            8 => start_of(k + 1 + self.dice.below(n)),
+            9 => start_of(next_chunk) - 1,
+            10 => start_of(next_chunk),
+            11 => start_of(k + n + self.dice.below(2)),
+            12 => start_of(next_chunk + n - 1 + self.dice.below(3)),
+            _ => start_of(next_chunk + n * self.dice.below(4) + self.dice.below(n)),
+        };
+        match u32::try_from(tick) {
+            Ok(tick) => tick,
+            // No such tick. Mostly stay, so that the history has some length.
+            Err(_) if self.dice.one_in(8) => u32::MAX,
+            Err(_) => time,
+        }
+    }
+
+    // Cells.
+
+    /// The ends of a link, in the unit's numbers.
+    fn link_cells(&mut self) -> (u32, u32) {
+        if !self.recent.is_empty() && self.dice.one_in(8) {
+            let (a, b) = self.dice.pick(&self.recent);
+            return if self.dice.one_in(2) { (a, b) } else { (b, a) };
+        }
+        let a = self.scene_cell();
+        let b = if self.dice.one_in(20) {
+            a
+        } else {
+            self.other_end(a)
+        };
+        (self.mirror_for_unit(a), self.mirror_for_unit(b))
+    }
+
+    /// The cells of a question, in the lorry's numbers.
+    fn question_cells(&mut self) -> (u32, u32) {
+        let first = self.scene_cell();
+        match self.dice.below(12) {
+            0 => (first, first),
+            1 | 2 if !self.recent.is_empty() => {
+                let (a, b) = self.dice.pick(&self.recent);
+                (self.mirror_for_unit(a), self.mirror_for_unit(b))
+            }
+            3 if !self.recent.is_empty() => {
+                let (_, b) = self.dice.pick(&self.recent);
+                (first, self.mirror_for_unit(b))
+            }
+            4 => (first, self.dice.below(u64::from(CELLS)) as u32),
+            _ => (first, self.scene_cell()),
+        }
+    }
+
+    /// Mirroring twice changes nothing, so this goes both ways.
+    fn mirror_for_unit(&self, cell: u32) -> u32 {
+        in_lorrys_numbers(cell, self.now().0.mounting)
+    }
+
+    fn scene_cell(&mut self) -> u32 {
+        match &self.habits.scene {
+            Scene::Pool(cells) => self.dice.pick(cells),
+            Scene::Things(middles) => {
+                let mut cell = self.dice.pick(middles);
+                for _ in 0..self.dice.below(3) {
+                    cell = touching_cell(&mut self.dice, cell);
+                }
+                cell
+            }
+        }
+    }
+
+    fn other_end(&mut self, a: u32) -> u32 {
+        match self.habits.scene {
+            Scene::Pool(_) => self.scene_cell(),
+            Scene::Things(_) => touching_cell(&mut self.dice, a),
+        }
+    }
+
+    /// The things seen move on a little.
+    fn drift(&mut self) {
+        if let Scene::Things(middles) = &mut self.habits.scene {
+            for middle in middles {
+                if self.dice.one_in(2) {
+                    *middle = touching_cell(&mut self.dice, *middle);
+                }
+            }
+        }
+    }
+
+    fn remember(&mut self, a: u32, b: u32) {
+        if self.recent.len() == 8 {
+            self.recent.remove(0);
+        }
+        self.recent.push((a, b));
+    }
+
+    fn spoil_cell(&mut self, cell: u32) -> u32 {
+        if self.spoilt() {
+            let any = self.dice.between(1024, 65_535) as u32;
+            self.dice
+                .pick(&[1024, 1024, 1025, cell + 1024, 2047, 32_768, 65_535, any])
+        } else {
+            cell
+        }
+    }
+
+    // Buffers.
+
+    fn log_places(&mut self) -> usize {
+        if self.spoilt() {
+            short_log(&mut self.dice)
+        } else {
+            long_log(&mut self.dice)
+        }
+    }
+
+    fn chain_places(&mut self) -> usize {
+        if self.spoilt() {
+            let any = self.dice.below(CHAIN_PLACES as u64) as usize;
+            self.dice.pick(&[0, 1, CHAIN_PLACES - 1, any])
+        } else if self.dice.one_in(8) {
+            CHAIN_PLACES + self.dice.between(1, 16) as usize
+        } else {
+            CHAIN_PLACES
+        }
+    }
+}
+
+impl Iterator for Random {
+    type Item = Call;
+
+    fn next(&mut self) -> Option<Call> {
+        let call = if self.left == 0 {
+            self.begin_history()
+        } else {
+            self.left -= 1;
+            self.draw()
+        };
+        self.follow(&call);
+        Some(call)
+    }
+}
+
+/// A log that is long enough, sometimes longer.
+fn long_log(dice: &mut Dice) -> usize {
+    if dice.one_in(8) {
+        dice.between(LOG_PLACES as u64 + 1, MOST_LOG_PLACES as u64) as usize
+    } else {
+        LOG_PLACES
+    }
+}
+
+fn short_log(dice: &mut Dice) -> usize {
+    let any = dice.below(LOG_PLACES as u64) as usize;
+    dice.pick(&[0, 1, LOG_PLACES / 2, LOG_PLACES - 1, any])
+}
+
+/// Settings that are taken: all n, both mountings, small and huge B, T0 near
+/// either end of the range and between.
+pub(crate) fn draw_settings(dice: &mut Dice) -> Settings {
+    Settings {
+        n: dice.between(1, 16) as u32,
+        b: draw_b(dice),
+        mounting: dice.between(1, 2) as u32,
+        t0: draw_t0(dice),
+    }
+}
+
+fn draw_b(dice: &mut Dice) -> u32 {
+    match dice.below(16) {
+        0..=3 => 1,
+        4..=6 => dice.between(2, 12) as u32,
+        7..=9 => dice.between(1, 1_000) as u32,
+        10..=12 => dice.between(1_000, 100_000_000) as u32,
+        13 => dice.between(1, u64::from(u32::MAX)) as u32,
+        14 => 1 << dice.between(24, 31),
+        _ => u32::MAX - dice.below(3) as u32,
+    }
+}
+
+fn draw_t0(dice: &mut Dice) -> u32 {
+    match dice.below(10) {
+        0..=3 => 0,
+        4 | 5 => dice.below(50) as u32,
+        6 | 7 => dice.bits() as u32,
+        8 => u32::MAX - dice.below(5_000) as u32,
+        _ => u32::MAX - dice.below(3) as u32,
+    }
+}
+
+/// Settings that are refused: one of n, B and mounting outside, or more.
+pub(crate) fn spoil_settings(dice: &mut Dice, good: Settings) -> Settings {
+    let mut bad = good;
+    let spoil = dice.between(1, 7);
+    if spoil & 1 != 0 {
+        bad.n = dice.pick(&[0, 17, 18, 32, 255]);
+    }
+    if spoil & 2 != 0 {
+        bad.b = 0;
+    }
+    if spoil & 4 != 0 {
+        bad.mounting = dice.pick(&[0, 3, 4, 255]);
+    }
+    bad
+}
+
+fn draw_habits(dice: &mut Dice, kind: Kind) -> Habits {
+    let kind = match kind {
+        Kind::Mixed => dice.pick(&[Kind::Few, Kind::Few, Kind::All, Kind::Touching]),
+        one => one,
+    };
+    let scene = match kind {
+        Kind::All => Scene::Pool((0..CELLS).collect()),
+        Kind::Touching => {
+            let things = dice.between(1, 6);
+            Scene::Things((0..things).map(|_| dice.below(1024) as u32).collect())
+        }
+        _ => Scene::Pool(draw_pool(dice)),
+    };
+    let in_bursts = dice.one_in(if kind == Kind::All { 6 } else { 25 });
+    let spoils = dice.pick(&[0, 100, 30, 10, 3]);
+    Habits {
+        scene,
+        questions: dice.pick(&[20, 40, 60, 80]),
+        moves: dice.pick(&[1, 3, 6, 12, 30, 60]),
+        creeps: dice.one_in(3),
+        spoils,
+        bursts: if in_bursts { dice.between(20, 80) } else { 0 },
+        calls: if spoils == 3 {
+            dice.between(20, 100)
+        } else if in_bursts {
+            dice.between(500, 6_000)
+        } else {
+            dice.between(20, 600)
+        },
+    }
+}
+
+/// 4 to 40 cells: neighbours in number, any, or the corners among them.
+fn draw_pool(dice: &mut Dice) -> Vec<u32> {
+    let size = dice.between(4, 40) as usize;
+    if dice.one_in(3) {
+        let start = dice.below(u64::from(CELLS) - size as u64 + 1) as u32;
+        return (start..start + size as u32).collect();
+    }
+    let mut pool = dice.shuffled_cells();
+    if dice.one_in(3) {
+        pool.retain(|cell| ![0, 63, 960, 1023].contains(cell));
+        pool.splice(0..0, [0, 63, 960, 1023]);
+    }
+    pool.truncate(size);
+    pool
+}
+
+/// A cell that touches this one: the next sector of its ring, either way
+/// round, or the same sector of the next ring in or out.
+pub(crate) fn touching_cell(dice: &mut Dice, cell: u32) -> u32 {
+    let (ring, sector) = (cell / SECTORS, cell % SECTORS);
+    let (ring, sector) = match dice.below(4) {
+        0 => (ring, (sector + 1) % SECTORS),
+        1 => (ring, (sector + SECTORS - 1) % SECTORS),
+        2 => ((ring + 1).min(RINGS - 1), sector),
+        _ => (ring.saturating_sub(1), sector),
+    };
+    SECTORS * ring + sector
+}

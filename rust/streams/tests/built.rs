@@ -1,0 +1,246 @@
+//! The built streams reach what they were built for, by the oracle's answers.
+
+use oracle::{Book, Settings};
+use streams::{ask, built, Answer, Call};
+
+fn settings(n: u32, mounting: u32) -> Settings {
+    Settings {
+        n,
+        b: 7,
+        mounting,
+        t0: 1_000,
+    }
+}
+
+/// What a stream came to.
+#[derive(Debug, Default, PartialEq)]
+struct Reached {
+    /// The most steps for a cell with itself.
+    steps_itself: u32,
+    /// The most steps for two different cells.
+    steps_two: u32,
+    /// The most cells of a chain.
+    cells: u32,
+    /// The most steps of one walk, in the backward and the forward forest.
+    back: u32,
+    ahead: u32,
+    yes: u32,
+    no: u32,
+    full_slides: u32,
+}
+
+/// Runs a stream. Only a full slide may refuse in it, and that is counted.
+fn run(calls: &[Call]) -> Reached {
+    let mut book = Book::new();
+    let mut reached = Reached::default();
+    for call in calls {
+        let answer = ask(&mut book, call);
+        match (call, answer) {
+            (Call::Joined { first, second }, Answer::Joined { joined, steps, .. }) => {
+                let most = if first == second {
+                    &mut reached.steps_itself
+                } else {
+                    &mut reached.steps_two
+                };
+                if steps > *most {
+                    *most = steps;
+                    look_at_walks(&book, &[*first, *second], &mut reached);
+                }
+                if joined {
+                    reached.yes += 1;
+                } else {
+                    reached.no += 1;
+                }
+            }
+            (Call::Chain { .. }, Answer::Chain { cells, .. }) => {
+                reached.cells = reached.cells.max(cells);
+            }
+            (_, answer) => {
+                assert!([0, 5].contains(&answer.number()), "{:?}", call);
+                reached.full_slides += u32::from(answer.number() == 5);
+            }
+        }
+    }
+    reached
+}
+
+fn look_at_walks(book: &Book, cells: &[u32], reached: &mut Reached) {
+    let history = book.history.as_ref().unwrap();
+    let cut = history.open_place() + 1;
+    let (backward, forward) = (history.backward_forest(), history.forward_forest());
+    for &cell in cells {
+        reached.back = reached.back.max(backward.walk_at_cut(cell, cut).steps);
+        reached.ahead = reached.ahead.max(forward.walk(cell).steps);
+    }
+}
+
+#[test]
+fn walks_of_10_steps_40_with_itself_and_38_for_two() {
+    for n in 8..=16 {
+        for mounting in 1..=2 {
+            for chunk in [1, 4] {
+                let calls = built::deep_walks(settings(n, mounting), chunk, 4, 4, u64::from(n));
+                let reached = run(&calls);
+                assert_eq!((reached.back, reached.ahead), (10, 10), "n {}", n);
+                assert_eq!(reached.steps_itself, 40, "n {}", n);
+                assert_eq!(reached.steps_two, 38, "n {}", n);
+            }
+        }
+    }
+}
+
+/// 2^j cells take 2^j - 1 links, so 1 slide comes to 8 steps, 2 and 3 slides to
+/// 9, 4 slides to 10; and 10 steps in one forest need n 4 or 5.
+#[test]
+fn walks_with_fewer_slides() {
+    let steps = [0, 8, 9, 9, 10];
+    for back in 0..=4u64 {
+        for ahead in 1..=4u64 {
+            let n = back + ahead;
+            let calls = built::deep_walks(settings(n as u32, 1), 2, back, ahead, 5);
+            let reached = run(&calls);
+            assert!(reached.back >= steps[back as usize]);
+            assert_eq!(reached.ahead, steps[ahead as usize]);
+            let both = 2 * (steps[back as usize] + steps[ahead as usize]);
+            if back == ahead || back == 0 {
+                // The same cells, so the same deepest one, in both forests.
+                assert_eq!(reached.steps_itself, both);
+            }
+        }
+    }
+}
+
+#[test]
+fn zigzags_cross_1023_groups() {
+    for (n, back, ahead, cells) in [
+        (2, 1, 1, 512),
+        (3, 2, 1, 512),
+        (3, 1, 2, 512),
+        (4, 2, 2, 1024),
+        (9, 3, 2, 1024),
+        (16, 8, 8, 1024),
+    ] {
+        for mounting in 1..=2 {
+            let calls = built::zigzag(settings(n, mounting), 3, back, ahead, 77);
+            let reached = run(&calls);
+            assert_eq!(reached.cells, cells, "n {}", n);
+            assert!(reached.yes > 20 && reached.no > 20);
+            assert_eq!(
+                groups_met(&calls),
+                (cells as usize / 2, cells as usize / 2 - 1)
+            );
+        }
+    }
+}
+
+/// How many groups of two or more cells the backward and the forward forest
+/// have when the first chain of a zigzag is asked for: all are crossed, for
+/// the chain has all their cells.
+fn groups_met(calls: &[Call]) -> (usize, usize) {
+    let mut book = Book::new();
+    for call in calls {
+        if matches!(call, Call::Chain { .. }) {
+            break;
+        }
+        ask(&mut book, call);
+    }
+    let history = book.history.as_ref().unwrap();
+    let cut = history.open_place() + 1;
+    let (backward, forward) = (history.backward_forest(), history.forward_forest());
+    // Every group is a pair, so one cell of each takes a step.
+    let steps_back = |cell: &u32| backward.walk_at_cut(*cell, cut).steps == 1;
+    let steps_ahead = |cell: &u32| forward.walk(*cell).steps == 1;
+    (
+        (0..1024).filter(steps_back).count(),
+        (0..1024).filter(steps_ahead).count(),
+    )
+}
+
+#[test]
+fn chains_of_1023_links() {
+    for n in 4..=16 {
+        for mounting in 1..=2 {
+            let calls = built::long_chain(settings(n, mounting), 3 * u64::from(n) - 2, 8);
+            let reached = run(&calls);
+            assert_eq!(reached.cells, 1024, "n {}", n);
+        }
+    }
+}
+
+#[test]
+fn grids_have_long_chains_with_ties() {
+    for n in [1, 2, 8, 16] {
+        let calls = built::grid(settings(n, 2), 5, 3);
+        let reached = run(&calls);
+        // From corner to corner: 2 (side - 1) links.
+        let side = match n {
+            1 => 11,
+            2 => 16,
+            _ => 32,
+        };
+        assert!(reached.cells > 2 * (side - 1), "n {}", n);
+    }
+}
+
+#[test]
+fn full_logs_are_full() {
+    for n in [1, 5, 16] {
+        let calls = built::full_log(settings(n, 1), 4);
+        let mut book = Book::new();
+        let mut refused = 0;
+        for call in &calls {
+            let answer = ask(&mut book, call);
+            refused += u32::from(answer.number() == 5);
+        }
+        let history = book.history.as_ref().unwrap();
+        assert_eq!(u64::from(refused), history.open_slide() + 1);
+        assert_eq!(history.window().len(), 256 * n as usize);
+    }
+}
+
+#[test]
+fn the_last_slides_of_all() {
+    for n in [1, 7, 16] {
+        let calls = built::last_ticks(n, 2, 6);
+        let mut book = Book::new();
+        let mut largest_l = 0;
+        for call in &calls {
+            if let Answer::Chain { l, .. } = ask(&mut book, call) {
+                largest_l = largest_l.max(l);
+            }
+        }
+        assert_eq!(largest_l, 4_294_967_296);
+        assert_eq!(book.history.unwrap().open_slide(), 4_294_967_295);
+    }
+}
+
+#[test]
+fn all_built_streams_run() {
+    let streams = built::all(1);
+    for (what, least) in [
+        ("deep walks", 150),
+        ("zigzag", 100),
+        ("long chain", 26),
+        ("grid", 32),
+        ("full log", 32),
+        ("last ticks", 32),
+    ] {
+        let of = |stream: &&(String, Vec<Call>)| stream.0.starts_with(what);
+        assert!(streams.iter().filter(of).count() >= least, "{}", what);
+    }
+    let mut most = Reached::default();
+    for (name, calls) in &streams {
+        let reached = run(calls);
+        assert!(reached.yes > 0, "{}", name);
+        let full = name.starts_with("full log");
+        assert_eq!(reached.full_slides > 0, full, "{}", name);
+        most.steps_itself = most.steps_itself.max(reached.steps_itself);
+        most.steps_two = most.steps_two.max(reached.steps_two);
+        most.cells = most.cells.max(reached.cells);
+    }
+    assert_eq!(
+        (most.steps_itself, most.steps_two, most.cells),
+        (40, 38, 1024)
+    );
+    assert_eq!(streams, built::all(1));
+}

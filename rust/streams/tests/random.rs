@@ -1,0 +1,167 @@
+//! The random streams: the same for a seed, and wide enough.
+
+use oracle::{Book, LOG_PLACES};
+use std::collections::{BTreeMap, BTreeSet};
+use streams::{ask, Answer, Call, Kind, Random};
+
+const KINDS: [Kind; 4] = [Kind::Few, Kind::All, Kind::Touching, Kind::Mixed];
+
+#[test]
+fn a_seed_gives_the_same_calls() {
+    for kind in KINDS {
+        let first: Vec<Call> = Random::new(9, kind).take(3_000).collect();
+        let again: Vec<Call> = Random::new(9, kind).take(3_000).collect();
+        let other: Vec<Call> = Random::new(10, kind).take(3_000).collect();
+        assert_eq!(first, again);
+        assert_ne!(first, other);
+    }
+}
+
+fn name(call: &Call) -> &'static str {
+    match call {
+        Call::Opening { .. } => "opening",
+        Call::Link { .. } => "link",
+        Call::Clock { .. } => "clock",
+        Call::Joined { .. } => "joined",
+        Call::Chain { .. } => "chain",
+        _ => "file",
+    }
+}
+
+/// Each call gives each number it can give (8 aside, which none can earn), and
+/// a refusal leaves the book equal.
+#[test]
+fn every_call_gives_every_number() {
+    for kind in KINDS {
+        let mut given: BTreeMap<&str, BTreeSet<u32>> = BTreeMap::new();
+        // Several seeds: each starts with a book that was never opened.
+        for seed in 0..20 {
+            let mut book = Book::new();
+            for call in Random::new(seed, kind).take(2_000) {
+                let before = book.clone();
+                let number = ask(&mut book, &call).number();
+                given.entry(name(&call)).or_default().insert(number);
+                if number != 0 {
+                    assert_eq!(book, before);
+                }
+            }
+        }
+        assert_eq!(given["opening"], BTreeSet::from([0, 2, 6]));
+        assert_eq!(given["link"], BTreeSet::from([0, 1, 3, 4, 5, 6]));
+        assert_eq!(given["clock"], BTreeSet::from([0, 1, 4, 6]));
+        assert_eq!(given["joined"], BTreeSet::from([0, 1, 3]));
+        assert_eq!(given["chain"], BTreeSet::from([0, 1, 3, 6, 7]));
+    }
+}
+
+#[test]
+fn refusals_come_together_so_that_their_order_shows() {
+    // (short log, bad cell, old tick) of links to an opened book.
+    let mut together = BTreeSet::new();
+    let mut book = Book::new();
+    for call in Random::new(3, Kind::Few).take(60_000) {
+        if let (
+            Call::Link {
+                tick,
+                a,
+                b,
+                log_places,
+            },
+            Some(history),
+        ) = (&call, &book.history)
+        {
+            let short = *log_places < LOG_PLACES;
+            let bad = *a > 1023 || *b > 1023;
+            together.insert((short, bad, *tick < history.time));
+        }
+        ask(&mut book, &call);
+    }
+    assert_eq!(together.len(), 8, "{:?}", together);
+}
+
+/// What a stream went through.
+#[derive(Debug, Default)]
+struct Seen {
+    widths: BTreeSet<u32>,
+    mountings: BTreeSet<u32>,
+    yes: u32,
+    no: u32,
+    holds: BTreeSet<u32>,
+    steps: BTreeSet<u32>,
+    cells: BTreeSet<u32>,
+    jumps_over_slides: u32,
+    jumps_over_chunks: u32,
+    last_ticks: u32,
+    huge_slides: u32,
+    repeats: u32,
+    itself: u32,
+    most_links_in_window: usize,
+}
+
+fn look(seed: u64, kind: Kind, calls: usize) -> Seen {
+    let mut seen = Seen::default();
+    let mut book = Book::new();
+    for call in Random::new(seed, kind).take(calls) {
+        let slide_before = book.history.as_ref().map(|history| history.open_slide());
+        let answer = ask(&mut book, &call);
+        let history = match &book.history {
+            Some(history) => history,
+            None => continue,
+        };
+        let done = answer.number() == 0;
+        let n = history.n();
+        match (&call, &answer) {
+            (Call::Opening { settings, .. }, _) if done => {
+                seen.widths.insert(settings.n);
+                seen.mountings.insert(settings.mounting);
+                continue;
+            }
+            (Call::Link { .. }, _) if done => {
+                let window = history.window();
+                let (last, others) = window.split_last().unwrap();
+                let same = |link: &oracle::Link| (link.a, link.b) == (last.a, last.b);
+                seen.repeats += u32::from(others.iter().any(same));
+                seen.itself += u32::from(last.a == last.b);
+                seen.most_links_in_window = seen.most_links_in_window.max(window.len());
+            }
+            (Call::Joined { first, second }, Answer::Joined { joined, steps, .. }) if done => {
+                seen.steps.insert(*steps);
+                if first != second {
+                    seen.yes += u32::from(*joined);
+                    seen.no += u32::from(!*joined);
+                }
+            }
+            (Call::Chain { .. }, Answer::Chain { hold, cells, .. }) if done => {
+                seen.holds.insert(*hold);
+                seen.cells.insert(*cells);
+            }
+            _ => {}
+        }
+        let slide = history.open_slide();
+        let before = slide_before.unwrap_or(0);
+        seen.jumps_over_slides += u32::from(slide > before + 1);
+        seen.jumps_over_chunks += u32::from(slide / n > before / n + 1);
+        seen.last_ticks += u32::from(history.time > u32::MAX - 3);
+        seen.huge_slides += u32::from(slide > u64::from(u32::MAX) - 50);
+    }
+    seen
+}
+
+#[test]
+fn the_streams_are_wide_enough() {
+    for kind in KINDS {
+        let seen = look(1, kind, 80_000);
+        let text = format!("{:?} {:?}", kind, seen);
+        assert_eq!(seen.widths.len(), 16, "{}", text);
+        assert_eq!(seen.mountings.len(), 2, "{}", text);
+        assert!(seen.yes > 1_000 && seen.no > 1_000, "{}", text);
+        assert_eq!(seen.holds.len(), 17, "{}", text);
+        assert!(seen.steps.len() >= 8, "{}", text);
+        assert!(seen.cells.len() >= 6, "{}", text);
+        assert!(seen.jumps_over_slides > 200, "{}", text);
+        assert!(seen.jumps_over_chunks > 80, "{}", text);
+        assert!(seen.last_ticks > 100 && seen.huge_slides > 100, "{}", text);
+        assert!(seen.repeats > 1_000 && seen.itself > 500, "{}", text);
+        assert!(seen.most_links_in_window > 1_000, "{}", text);
+    }
+}
