@@ -29,18 +29,18 @@ use Rattle.book.proofs.Steps.{Steps, steps-linked, steps-chain, forward
 abbrev rootsBy : (ℕ → ℕ) → List ℕ
 rootsBy up = map (λ c. climb up most c .root) (freshParents cells)
 
+long : (up : ℕ → ℕ) → length (rootsBy up) ≡ cells
+long up = length-each (λ c. climb up most c .root) cells
+
+key : (up : ℕ → ℕ) (c : ℕ) → c < cells → getD (rootsBy up) c 0 ≡ climb up most c .root
+key up c h = getD-each (λ c. climb up most c .root) cells c 0 h
+
 -- ---- one forest
 
 module _ {up : ℕ → ℕ} (r : Rooted up) where
-  long : length (rootsBy up) ≡ cells
-  long = length-each (λ c. climb up most c .root) cells
-
-  key : (c : ℕ) → c < cells → getD (rootsBy up) c 0 ≡ climb up most c .root
-  key c h = getD-each (λ c. climb up most c .root) cells c 0 h
-
   roots-keyed : Keyed (rootsBy up)
   roots-keyed =
-      record { inside = λ c h. let i : c < cells = rw long at h in rw (long, key c i) (root-below up cells (r .inside) most c i) }
+      record { inside = λ c h. let i : c < cells = rw (long up) at h in rw (long up, key up c i) (root-below up cells (r .inside) most c i) }
 
   module _ {ls : List Link} (steps : Steps up 0 ls) where
     -- the cells of one root are chained
@@ -48,7 +48,7 @@ module _ {up : ℕ → ℕ} (r : Rooted up) where
     root-chained a b = steps-chain most (r .way) steps a b .1
 
     key-chained : {a b : ℕ} → a < cells → b < cells → getD (rootsBy up) a 0 ≡ getD (rootsBy up) b 0 → Chained ls a b
-    key-chained {a} {b} h i e = root-chained a b (sym (key a h) ∙ e ∙ key b i)
+    key-chained {a} {b} h i e = root-chained a b (sym (key up a h) ∙ e ∙ key up b i)
 
     -- a step joins a cell with a cell, of the same key
     pub linked-cell : {a b : ℕ} → a < cells → Linked a b ls → b < cells
@@ -62,7 +62,7 @@ module _ {up : ℕ → ℕ} (r : Rooted up) where
     linked-key : {a b : ℕ} → a < cells → Linked a b ls → (b < cells) × (getD (rootsBy up) a 0 ≡ getD (rootsBy up) b 0)
     linked-key {a} {b} h l =
         let i : b < cells = linked-cell h l in
-        (i, key a h ∙ steps-chain most (r .way) steps a b .0 (chained-one l) ∙ sym (key b i))
+        (i, key up a h ∙ steps-chain most (r .way) steps a b .0 (chained-one l) ∙ sym (key up b i))
 
 -- ---- both
 
@@ -72,11 +72,11 @@ module _ {back forth : ℕ → ℕ} (b : Rooted back) (f : Rooted forth) {ls ms 
   across-chained (here e) = (rw e at cell, same e)
   across-chained (by-backward r h e) =
       let i = across-chained r in
-      let j = rw (long b) at h in
+      let j = rw (long back) at h in
       (j, chained-trans (i .1) (chained-left ms (key-chained b backward (i .0) j e)))
   across-chained (by-forward r h e) =
       let i = across-chained r in
-      let j = rw (long b) at h in
+      let j = rw (long back) at h in
       (j, chained-trans (i .1) (chained-right ls (key-chained f forward (i .0) j e)))
 
   chained-across : {c : ℕ} → Chained (ls ++ ms) one c → (c < cells) × Across (rootsBy back) (rootsBy forth) one c
@@ -84,8 +84,8 @@ module _ {back forth : ℕ → ℕ} (b : Rooted back) (f : Rooted forth) {ls ms 
   chained-across (more x l) =
       let i = chained-across x in
       ⊎-elim
-      (λ k. let j = linked-key b backward (i .0) k in (j .0, by-backward (i .1) (rw (long b) (j .0)) (j .1)))
-      (λ k. let j = linked-key f forward (i .0) k in (j .0, by-forward (i .1) (rw (long b) (j .0)) (j .1)))
+      (λ k. let j = linked-key b backward (i .0) k in (j .0, by-backward (i .1) (rw (long back) (j .0)) (j .1)))
+      (λ k. let j = linked-key f forward (i .0) k in (j .0, by-forward (i .1) (rw (long back) (j .0)) (j .1)))
       (linked-append-cases ls l)
 
   crossing-answers : {other : ℕ} (answer : Bool) → JoinedAcross (rootsBy back) (rootsBy forth) one other answer → answer ≡ chains (ls ++ ms) one other

@@ -79,7 +79,7 @@ turned-made b log clock p s e k = rw (p, s, e, k)
 -- ---- what the slide holds that the time has moved to
 
 -- an entry of a list of zeros is 0, within the list or beyond it
-zeros : (n i : ℕ) → _≡_ {A = ℕ} (getD (replicate n 0) i 0) 0
+pub zeros : (n i : ℕ) → _≡_ {A = ℕ} (getD (replicate n 0) i 0) 0
 zeros zero i = refl
 zeros (suc n) zero = refl
 zeros (suc n) (suc i) = zeros n i
@@ -91,7 +91,7 @@ cleared-part zero k p l h =
 cleared-part (suc m) k p [] h = rw (drop-nil {A = ℕ} (suc m + k), append-nil {A = ℕ} (replicate k 0)) (zeros k (suc m + p))
 cleared-part (suc m) k p (x ∷ l) h = rw (suc-add m k, suc-add m p) (cleared-part m k p l h)
 
-cleared-there : (half place : ℕ) (counts : List ℕ) → place < 16 → getD (cleared half counts) (spotOf half place) 0 ≡ 0
+pub cleared-there : (half place : ℕ) (counts : List ℕ) → place < 16 → getD (cleared half counts) (spotOf half place) 0 ≡ 0
 unfolding cleared
 cleared-there half place counts h = cleared-part (half * 16) 16 place counts h
 

@@ -1,5 +1,5 @@
--- Parents that number 1 lets pass lead from cells to cells, and every walk by them reaches a root. So it is at a cut: a walk
--- that ends, ends also where some steps are not taken.
+-- Parents that number 1 lets pass lead from cells to cells, and every walk by them reaches a root, in no more steps than it
+-- may take. So it is at a cut: a walk that ends, ends also where some steps are not taken.
 use Prim.Native.Nat.{ℕ, zero, suc, _≤_, _<_, zero-le, suc-le-suc}
 use mathlib.Core.Path.{_≡_, refl, sym, _∙_}
 use mathlib.Core.Bool.{Bool, true, false, cond}
@@ -9,10 +9,10 @@ use native.Mathlib.Omega.{arith}
 use native.Mathlib.Decide.{ℕ-discrete, decLe}
 use borrow.Author.Tests.{eqb-true}
 use lib.Dec.{eqb, ltb}
-use lib.ListN.{length, getD, List·getD-eq-default}
+use lib.ListN.{List·getD-eq-default}
 use Rattle.graph.specs.Forest.{Walk, onward, climb}
 use Rattle.graph.proofs.Walks.{Way, arrived, onwards}
-use Rattle.forest.specs.Arrays.{parentIn, parentAtIn, labelIn, ends, soundOf}
+use Rattle.forest.specs.Arrays.{parentIn, parentAtIn, labelIn, ends}
 use Rattle.forest.proofs.Climb.{climb-stays, climb-goes, climb-none}
 use Rattle.forest.proofs.Ends.{ends-goes}
 use Rattle.forest.proofs.Ranged.{sound-ranged, sound-ends}

@@ -132,7 +132,8 @@ fn across<'a>(
     crossing::joined_across(&backward_roots, &forward_roots, one, other)
 }
 
-// Whether no parent step leaves or reaches the cell, in either forest.
+// Whether no parent step leaves or reaches the cell, in either forest. Two passes tell, which cost less than the roots of
+// all cells.
 fn alone<'a>(backward: &'a [u16], label: &'a [u8], forward: &'a [u16], cut: u8, cell: u16) -> bool
     requires { ⌜ (length (now backward) ≡ 1024) × (length (now label) ≡ 1024) × (length (now forward) ≡ 1024) ⌝ }
     ensures { λ r. ⌜ r ≡ aloneIn (parentAtIn (now (backward .entry)) (now (label .entry)) cut) cell && aloneIn (parentIn (now (forward .entry))) cell ⌝ }

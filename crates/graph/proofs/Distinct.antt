@@ -2,7 +2,7 @@
 --
 -- A trail that came to a cell again could leave out what lies between, and would be shorter. So each of its cells is new: with
 -- a mark on each cell that is met, each cell adds one mark, and there are at most n marks on the cells below n.
-use Prim.Native.Nat.{ℕ, zero, suc, _+_, _≤_, _<_, zero-le}
+use Prim.Native.Nat.{ℕ, zero, suc, _≤_, _<_, zero-le}
 use native.Mathlib.Nat.{le-of-suc-le-suc, le-refl, le-trans, le-suc}
 use native.Mathlib.Omega.{arith}
 use mathlib.Core.Path.{_≡_, refl, _∙_}

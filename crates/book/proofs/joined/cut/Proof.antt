@@ -1,6 +1,6 @@
 -- `book::joined::cut` meets its contract: a place is below n, which is a byte, so one more is a byte too.
 use Prim.Native.Nat.{ℕ, _+_, _^_, _≤_, _<_}
-use mathlib.Core.Path.{_≡_, ap, _∙_}
+use mathlib.Core.Path.{ap, _∙_}
 use native.Mathlib.Omega.{arith}
 use native.Mathlib.Decide.{decLe}
 use borrow.Author.Needs.{needs}

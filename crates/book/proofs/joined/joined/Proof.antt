@@ -2,18 +2,15 @@
 use Prim.Native.Nat.{ℕ, _≤_, _<_}
 use mathlib.Core.Path.{_≡_, sym, ap, _∙_}
 use mathlib.Core.Bool.{true, false, _&&_, and-eq-true-iff}
-use mathlib.Core.List.{List}
 use native.Mathlib.Omega.{arith}
 use borrow.Author.Needs.{needs}
 use borrow.Author.Tests.{lt-ltb, le-ltb, not-true, not-false}
-use lib.ListN.{length}
 use Rattle.settings.specs.Settings.{heldInRange}
 use Rattle.slides.specs.Clock.{clockInRange}
 use Rattle.forest.specs.Arrays.{every, within, soundOf, labelsWithin}
 use Rattle.book.specs.declared.Book.{Book}
 use Rattle.book.specs.declared.JoinedAnswer.{JoinedAnswer}
 use Rattle.book.specs.Arrays.{cells, most}
-use Rattle.book.specs.Askable.{Sound, Askable}
 use Rattle.book.specs.Order.{inOrderOf, inOrder}
 use Rattle.book.specs.Calls.{firstOf, cutOf, stepLinks, fourWalks, answerOf, joinedNumber, joinedBy, joinedOf}
 use Rattle.book.proofs.joined.joined.Statement.{statement}
@@ -45,15 +42,15 @@ module _ (b : Book) (one other : ℕ) where
 
 -- ---- a book in order
 
-module _ (b : Book) (e : inOrder b ≡ true) where
-  sounds : (soundOf (b .«backward_parent») (b .«backward_size») most ≡ true) × (soundOf (b .«forward_parent») (b .«forward_size») most ≡ true)
-  unfolding inOrderOf
-  sounds =
-      let labels = and-eq-true-iff _ (labelsWithin (b .«backward_label») 15) .0 e in
-      let backward = and-eq-true-iff _ (soundOf (b .«backward_parent») (b .«backward_size») most) .0 (labels .0) in
-      let fields = clockInRange (b .clock) && heldInRange (b .clock .n) (b .clock .b) (b .mounting) && every (within 0 257) 0 (b .counts) in
-      let forward = and-eq-true-iff fields (soundOf (b .«forward_parent») (b .«forward_size») most) .0 (backward .0) in
-      (backward .1, forward .1)
+sounds : (b : Book) → inOrder b ≡ true
+    → (soundOf (b .«backward_parent») (b .«backward_size») most ≡ true) × (soundOf (b .«forward_parent») (b .«forward_size») most ≡ true)
+unfolding inOrderOf
+sounds b e =
+    let labels = and-eq-true-iff _ (labelsWithin (b .«backward_label») 15) .0 e in
+    let backward = and-eq-true-iff _ (soundOf (b .«backward_parent») (b .«backward_size») most) .0 (labels .0) in
+    let fields = clockInRange (b .clock) && heldInRange (b .clock .n) (b .clock .b) (b .mounting) && every (within 0 257) 0 (b .counts) in
+    let forward = and-eq-true-iff fields (soundOf (b .«forward_parent») (b .«forward_size») most) .0 (backward .0) in
+    (backward .1, forward .1)
 
 -- the function's entry, from where number 1 is known
 abbrev entry : tie.After-in-order → tie.Start
@@ -77,14 +74,14 @@ refused-requires-2 : tie.Need-refused-requires-2
 refused-requires-2 c κs = search needs
 
 returns-2 : tie.Need-returns-2
-returns-2 c = c .refused2 .ensures ∙ first-no-cell _ _ _ (ordered (c .before .before)) (c .before .if2 .taken)
+returns-2 c = c .refused2 .ensures ∙ first-no-cell _ _ _ (ordered (c .before .before)) (omega (arith, c .before .if2 .taken))
 
 refused-requires-3 : tie.Need-refused-requires-3
 refused-requires-3 c κs = search needs
 
 returns-3 : tie.Need-returns-3
 returns-3 c =
-    c .refused3 .ensures ∙ second-no-cell _ _ _ (ordered (c .before .before .before)) (c .before .before .if2 .left) (c .before .if3 .taken)
+    c .refused3 .ensures ∙ second-no-cell _ _ _ (ordered (c .before .before .before)) (omega (arith, c .before .before .if2 .left)) (omega (arith, c .before .if3 .taken))
 
 cut-requires : tie.Need-cut-requires
 cut-requires c κs = search needs

@@ -1,0 +1,59 @@
+-- When a book and its log agree with a history: the clock and the settings are the history's, each live place of the log
+-- holds the links of its slide in order of arrival, and the arrays hold the two forests of document 01. Everything that is
+-- promised of books that calls have left follows from this; Keeps shows that calls keep it.
+use Prim.Native.Nat.{ℕ, _+_, _/_, _%_, _≤_, _<_}
+use mathlib.Core.Path.{_≡_}
+use mathlib.Core.Logic.{_⊎_}
+use mathlib.Core.Bool.{true}
+use mathlib.Core.List.{List, [], _∷_, reverse}
+use lib.ListN.{length, getD}
+use Rattle.settings.specs.Settings.{takenNumber}
+use Rattle.forest.specs.Arrays.{parentIn, sizeIn, held}
+use Rattle.book.specs.Arrays.{cells}
+use Rattle.book.specs.Log.{halfOf, spotOf, startOf, linksFrom}
+use Rattle.book.specs.Calls.{has, logPlaces}
+use Rattle.promises.specs.History.{Stored, History, clockIn, openSlideIn, chunkIn, slideLinks, howMany, linksOf}
+use Rattle.promises.specs.Panel.{State}
+use Rattle.promises.specs.Demands.{forwardForest, backwardForest}
+
+-- the slides never rise from the front on, and none is above k; both ends of each link are cells
+pub data Falling : ℕ → List Stored → Type 0 where
+  none : {k : ℕ} → Falling k []
+  next : {k : ℕ} {s : Stored} {ss : List Stored} → s .slide ≤ k → s .link .one < cells → s .link .other < cells → Falling (s .slide) ss →
+      Falling k (s ∷ ss)
+
+-- what is true of every history, whatever the book
+pub record Sensible (h : History) : Type 0 where
+  pub taken : takenNumber (h .settings) ≡ 0
+  pub since : h .settings .t0 ≤ h .time
+  pub falling : Falling (openSlideIn h) (h .links)
+  pub few : (t : ℕ) → howMany (slideLinks t (h .links)) ≤ 256
+
+-- slides of the open chunk and of the one before it
+abbrev pub Live : History → ℕ → Type 0
+Live h t = (t / h .settings .n ≡ chunkIn h) ⊎ (t / h .settings .n + 1 ≡ chunkIn h)
+
+-- the spot of a slide in the counts and in the log
+abbrev pub spotIn : History → ℕ → ℕ
+spotIn h t = spotOf (halfOf (t / h .settings .n)) (t % h .settings .n)
+
+-- the links of a slide stand in the log, in order of arrival
+pub record Kept (h : History) (s : State) (t : ℕ) : Type 0 where
+  pub count : getD (s .book .counts) (spotIn h t) 0 ≡ howMany (slideLinks t (h .links))
+  pub links : linksFrom (s .log) (startOf (spotIn h t)) (howMany (slideLinks t (h .links))) ≡ reverse (linksOf (slideLinks t (h .links)))
+
+pub record Agrees (h : History) (s : State) : Type 0 where
+  pub sensible : Sensible h
+  pub clock : s .book .clock ≡ clockIn h
+  pub mounting : s .book .mounting ≡ h .settings .mounting
+  pub room : has logPlaces (s .log) ≡ true
+  pub counts-long : length (s .book .counts) ≡ 32
+  pub counts-few : (spot : ℕ) → getD (s .book .counts) spot 0 ≤ 256
+  pub kept : (t : ℕ) → Live h t → Kept h s t
+  pub forward-long : (length (s .book .«forward_parent») ≡ cells) × (length (s .book .«forward_size») ≡ cells)
+  pub backward-long :
+      (length (s .book .«backward_parent») ≡ cells) × (length (s .book .«backward_size») ≡ cells)
+      × (length (s .book .«backward_label») ≡ cells)
+  pub forward-parents : parentIn (s .book .«forward_parent») ≡ forwardForest h .parent
+  pub forward-sizes : sizeIn (s .book .«forward_size») ≡ forwardForest h .size
+  pub backward : held (s .book .«backward_parent») (s .book .«backward_size») (s .book .«backward_label») ≡ backwardForest h

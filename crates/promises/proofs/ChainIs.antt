@@ -1,0 +1,286 @@
+-- Demand 3, Chain: what the chain call promises of a book that agrees with a history, as every book does that calls have left.
+--
+-- It goes by the largest label j such that the window's links from it on chain the two. Links with label c + 1 or more are those of
+-- the window c closings later (Window). So two different cells are chained c closings later exactly when c < j, and the hold is
+-- j - 1. The last window that chains them has the links of slides L to k, with L + n = k + j: it does not start before slide 0,
+-- since one closing more would then lose nothing. A best trail over cells below 1,024 has at most 1,024 of them (the crate graph),
+-- so number 8 never comes.
+use Prim.Native.Nat.{ℕ, suc, _+_, _-_, _≤_, _<_, zero-le}
+use mathlib.Core.Path.{_≡_, refl, sym, _∙_, ap, subst, subst⁻¹}
+use mathlib.Core.Bool.{Bool, true, false, and-eq-true-iff}
+use mathlib.Core.List.{List, [], _∷_, _++_}
+use mathlib.Core.Logic.{_↔_}
+use native.Mathlib.Omega.{arith}
+use native.Mathlib.Nat.{le-refl}
+use native.Mathlib.Decide.{decLe, ℕ-discrete}
+use lib.Dec.{ltb}
+use lib.ListN.{length, take, drop}
+use lib.Seq.{take-append-seam, drop-append-seam}
+use borrow.Author.Tests.{le-leb, lt-ltb, ltb-true}
+use Rattle.graph.specs.Link.{Chained, same, chains}
+use Rattle.graph.specs.Forest.{Labelled}
+use Rattle.graph.specs.Trail.{Best}
+use Rattle.graph.proofs.Chains.{Relinks, chained-relink, chained-alone, chains-true, true-chains, chains-false}
+use Rattle.graph.proofs.Trails.{best-same, best-relink}
+use Rattle.graph.proofs.Finder.{trailOf-best, best-trailOf}
+use Rattle.graph.proofs.Distinct.{best-few}
+use Rattle.slides.specs.Clock.{notBefore, slideOf}
+use Rattle.book.specs.Arrays.{cells}
+use Rattle.book.specs.Calls.{firstOf, unless, has, areCells, joinedOf}
+use Rattle.window.specs.Window.{windowLinks, linksFrom}
+use Rattle.trail.specs.Chain.{ChainOutcome, chainPlaces, labelOf, chainCells, chainNumber, chainBy, chainOf}
+use Rattle.promises.specs.History.{clock, History, clockIn, openSlideIn, windowOf, linksSince, numberIn, added, addedBy}
+use Rattle.promises.specs.Panel.{ours, State, stateOf, gives, givesChain}
+use Rattle.promises.specs.Demands.{Handed, Apart, Itself, Answers, Chain}
+use Rattle.promises.proofs.Agrees.{Agrees}
+use Rattle.promises.proofs.Lists.{same-test}
+use Rattle.promises.proofs.Numbers.{first-last, first-under}
+use Rattle.book.proofs.Checks.{passes}
+use Rattle.promises.proofs.NumbersAgree.{itself}
+use Rattle.promises.proofs.InOrder.{agrees-in-order}
+use Rattle.promises.proofs.KeptByTime.{slide-then}
+use Rattle.promises.proofs.Keeps.{step, keeps}
+use Rattle.promises.proofs.Highest.{highest-chained, highest-most, highest-within}
+use Rattle.promises.proofs.Closings.{closed, closed-inside, closed-now, closed-fewer, closed-since}
+use Rattle.promises.proofs.Window.{none-above, book-window, window-book}
+use Rattle.promises.proofs.JoinedIs.{joined-window}
+
+module _ {h : History} {s : State} (agrees : Agrees h s) (one other : ℕ) where
+  -- the window's links as the book holds them, and the largest label from which on they chain the two
+  abbrev held : List Labelled
+  held = windowLinks (s .book) (s .log)
+
+  abbrev label : ℕ
+  label = labelOf (s .book) (s .log) one other
+
+  abbrev path : List ℕ
+  path = chainCells (s .book) (s .log) one other
+
+  -- L
+  abbrev newest : ℕ
+  newest = openSlideIn h + label - h .settings .n
+
+  n-is : s .book .clock .n ≡ h .settings .n
+  n-is = ap (λ c. c .n) (agrees .clock)
+
+  -- ---- the label and the windows to come
+
+  label-suc : 0 < label → label ≡ suc (label - 1)
+  label-suc l = omega arith
+
+  label-held : 0 < label → Chained (linksFrom label held) one other
+  label-held = highest-chained held one other (suc (s .book .clock .n))
+
+  -- the links from it on are those of the window as many closings later, less one
+  held-closed : 0 < label → Relinks (linksFrom label held) (closed h (label - 1))
+  held-closed l = subst⁻¹ (λ i. Relinks (linksFrom i held) (closed h (label - 1))) (label-suc l) (book-window agrees (label - 1))
+
+  closed-held : 0 < label → Relinks (closed h (label - 1)) (linksFrom label held)
+  closed-held l = subst⁻¹ (λ i. Relinks (closed h (label - 1)) (linksFrom i held)) (label-suc l) (window-book agrees (label - 1))
+
+  label-closed : (c : ℕ) → c < label → Chained (closed h c) one other
+  label-closed c l =
+      let some : 0 < label = omega arith in
+      chained-relink (closed-fewer (agrees .sensible) {c = label - 1} (omega arith)) (chained-relink (held-closed some) (label-held some))
+
+  closed-label : (c : ℕ) → c ≤ h .settings .n → Chained (closed h c) one other → c < label
+  closed-label c le x = highest-most held one other _ (suc c) (omega (arith, n-is)) (chained-relink (window-book agrees c) x)
+
+  -- after n closings no link is left
+  none-left : (c : ℕ) → h .settings .n ≤ c → Chained (closed h c) one other → one ≡ other
+  none-left c le x = chained-alone (λ y l. none-above (s .book) (s .log) (suc c) (omega (arith, n-is)) one y l) (chained-relink (window-book agrees c) x)
+
+  label-window : ltb 0 label ≡ chains (windowOf h) one other
+  label-window =
+      same-test _ _ (λ e. true-chains (rw (← (closed-now h)) (label-closed 0 (ltb-true _ _ e))))
+      (λ e. lt-ltb 0 label (closed-label 0 zero-le (rw (closed-now h) (chains-true (windowOf h) one other e))))
+
+  -- a cell and itself are chained with no link at all
+  label-itself : one ≡ other → label ≡ suc (h .settings .n)
+  label-itself e =
+      omega (arith, n-is, highest-within held one other (suc (s .book .clock .n)), closed-label (h .settings .n) (le-refl _) (same e))
+
+  module _ (apart : one ≡ other → ⊥) where
+    -- two different cells stay chained for fewer closings than the label says
+    closed-is : (c : ℕ) → Chained (closed h c) one other ↔ (c < label)
+    closed-is c = (λ x. go (decLe c (h .settings .n)) x, label-closed c)
+      where
+        go : Dec (c ≤ h .settings .n) → Chained (closed h c) one other → c < label
+        go (yes le) x = closed-label c le x
+        go (no d) x = absurd (apart (none-left c (omega arith) x))
+
+    label-most : label ≤ h .settings .n
+    label-most = go (decLe label (h .settings .n))
+      where
+        go : Dec (label ≤ h .settings .n) → label ≤ h .settings .n
+        go (yes le) = le
+        go (no d) = absurd (apart (none-left (h .settings .n) (le-refl _) (label-closed (h .settings .n) (omega arith))))
+
+    -- no window starts before slide 0
+    label-least : 0 < label → h .settings .n ≤ openSlideIn h + label
+    label-least l = go (decLe (h .settings .n) (openSlideIn h + label))
+      where
+        whole : (c : ℕ) → openSlideIn h + c < h .settings .n → closed h c ≡ linksSince h 0
+        whole c young = closed-since (agrees .sensible) c 0 (λ t le. (λ _. zero-le, λ _. omega arith))
+
+        go : Dec (h .settings .n ≤ openSlideIn h + label) → h .settings .n ≤ openSlideIn h + label
+        go (yes le) = le
+        go (no d) =
+            let on : label < label = closed-is label .0 (rw (whole label (omega arith), ← (whole (label - 1) (omega arith))) (label-closed (label - 1) (omega arith))) in
+            absurd (omega arith)
+
+  -- ---- L, and the chain
+
+  -- the last window that chains the two starts with slide L
+  since-newest : (one ≡ other → ⊥) → 0 < label → closed h (label - 1) ≡ linksSince h newest
+  since-newest apart l =
+      let from : h .settings .n ≤ openSlideIn h + label = label-least apart l in
+      closed-since (agrees .sensible) (label - 1) newest (λ t le. (λ e. omega arith, λ e. omega arith))
+
+  newest-is : 0 < label → newest + h .settings .n ≡ openSlideIn h + label
+  newest-is l = go (ℕ-discrete one other)
+    where
+      go : Dec (one ≡ other) → newest + h .settings .n ≡ openSlideIn h + label
+      go (yes e) = omega (arith, label-itself e)
+      go (no apart) = omega (arith, label-least apart l)
+
+  path-best : 0 < label → Best (linksSince h newest) one other path
+  path-best l = go (ℕ-discrete one other)
+    where
+      go : Dec (one ≡ other) → Best (linksSince h newest) one other path
+      go (yes e) = rw (best-trailOf (best-same e)) (best-same e)
+      go (no apart) = rw (← (since-newest apart l)) (best-relink (held-closed l) (closed-held l) (trailOf-best (label-held l)))
+
+  -- ---- the number
+
+  -- a chain has at most 1,024 cells
+  chain-fits : one < cells → 0 < label → length path ≤ 1024
+  chain-fits below l =
+      best-few cells (λ x y m. closed-inside (agrees .sensible) (label - 1) x y (held-closed l x y m)) below (trailOf-best (label-held l))
+
+  module _ (chain : List ℕ) where
+    chain-number : chainNumber (s .book) (s .log) chain one other
+        ≡ firstOf
+        (unless (has chainPlaces chain) 6
+        ∷ unless (areCells one other) 3
+        ∷ unless (chains (windowOf h) one other) 7
+        ∷ [])
+    unfolding chainNumber
+    chain-number =
+        passes 1 _ (agrees-in-order agrees)
+        ∙ rw (agrees .room, ← label-window)
+        (first-under (has chainPlaces chain) 5 _ _
+        (λ _. first-under (areCells one other) 2 _ _
+        (λ are. first-under (ltb 0 label) 6 _ _
+        (λ l. passes 8 [] (le-leb _ _ (chain-fits (ltb-true _ _ (and-eq-true-iff (ltb one cells) _ .0 are .0)) (ltb-true 0 label l)))))))
+
+    chain-gives : givesChain ours s chain one other .answer .number ≡ chainNumber (s .book) (s .log) chain one other
+    unfolding chainOf chainBy
+    chain-gives = itself (λ k. chainBy k (s .book) (s .log) chain one other .answer .number) refl (λ k. refl) _
+
+    abbrev given : ChainOutcome
+    given =
+        record {
+          answer = record { newest = newest; cells = length path; hold = label - 1; number = 0 };
+          chain = path ++ drop (length path) chain;
+        }
+
+    chain-done : givesChain ours s chain one other .answer .number ≡ 0 → givesChain ours s chain one other ≡ given
+    unfolding chainOf chainBy
+    chain-done e = ap (λ k. chainBy k (s .book) (s .log) chain one other) (sym chain-gives ∙ e) ∙ rw (agrees .clock)
+
+    -- ---- where it gives 0
+
+    given-handed : 0 < label → Handed h chain one other given
+    given-handed l =
+        record {
+          best = rw front (path-best l);
+          long = ap length front;
+          rest = drop-append-seam path (drop (length path) chain);
+          hold = omega (arith, newest-is l);
+        }
+      where
+        front : take (length path) (path ++ drop (length path) chain) ≡ path
+        front = take-append-seam path (drop (length path) chain)
+
+    given-itself : one ≡ other → Itself h one given
+    given-itself e =
+        record {
+          newest = omega (arith, label-itself e);
+          hold = omega (arith, label-itself e);
+          cell = take-append-seam path (drop (length path) chain) ∙ best-trailOf (best-same e);
+        }
+
+    -- c closings later, where a tick reaches that slide
+    later-joined : areCells one other ≡ true → (c tick : ℕ) → slideOf (clockIn h) tick ≡ openSlideIn h + c → notBefore (clockIn h) tick ≡ true →
+        (joinedOf (gives ours s (clock tick) .book) one other .yes ≡ true) ↔ Chained (closed h c) one other
+    unfolding numberIn addedBy added
+    later-joined are c tick e later =
+        rw (← e, ← (slide-then agrees tick later))
+        (joined-window (subst (λ b. Agrees (addedBy (unless b 4) h (clock tick)) (stateOf (gives ours s (clock tick)))) later (step agrees (clock tick))) one other are)
+
+    given-apart : areCells one other ≡ true → 0 < label → (one ≡ other → ⊥) → Apart ours s h one other (given .answer)
+    given-apart are l apart =
+        record {
+          chained = rw (← (since-newest apart l)) (label-closed (label - 1) (omega arith));
+          largest = largest;
+          few = omega (arith, label-most apart);
+          closings = λ c. (λ x. omega (arith, closed-is apart c .0 x), λ le. label-closed c (omega arith));
+          clocks = λ c tick e later. (
+            λ x. omega (arith, closed-is apart c .0 (later-joined are c tick e later .0 x)),
+            λ le. later-joined are c tick e later .1 (label-closed c (omega arith)),
+          );
+        }
+      where
+        largest : (m : ℕ) → newest < m → Chained (linksSince h m) one other → ⊥
+        largest m above x =
+            let c : ℕ = m + h .settings .n - openSlideIn h - 1 in
+            let from : newest + h .settings .n ≡ openSlideIn h + label = newest-is l in
+            let at : closed h c ≡ linksSince h m = closed-since (agrees .sensible) c m (λ t le. (λ e. omega arith, λ e. omega arith)) in
+            let below : c < label = closed-is apart c .0 (rw at x) in
+            omega arith
+
+    module _ (places : has chainPlaces chain ≡ true) (are : areCells one other ≡ true) where
+      abbrev number : ℕ
+      number = givesChain ours s chain one other .answer .number
+
+      number-is : number ≡ unless (chains (windowOf h) one other) 7
+      unfolding firstOf
+      number-is = chain-gives ∙ chain-number ∙ rw (places, are) (first-last _)
+
+      done : (number ≡ 0) ↔ Chained (windowOf h) one other
+      done = rw number-is (go (chains (windowOf h) one other) refl)
+        where
+          go : (t : Bool) → chains (windowOf h) one other ≡ t → (unless t 7 ≡ 0) ↔ Chained (windowOf h) one other
+          go true e = (λ _. chains-true _ one other e, λ _. refl)
+          go false e = (λ q. absurd (omega arith), λ x. absurd (chains-false _ one other e x))
+
+      no-trail : (number ≡ 7) ↔ (Chained (windowOf h) one other → ⊥)
+      no-trail = rw number-is (go (chains (windowOf h) one other) refl)
+        where
+          go : (t : Bool) → chains (windowOf h) one other ≡ t → (unless t 7 ≡ 7) ↔ (Chained (windowOf h) one other → ⊥)
+          go true e = (λ q. absurd (omega arith), λ none. absurd (none (chains-true _ one other e)))
+          go false e = (λ _. chains-false _ one other e, λ _. refl)
+
+      positive : number ≡ 0 → 0 < label
+      positive e = closed-label 0 zero-le (rw (closed-now h) (done .0 e))
+
+      pub answers : Answers ours s h chain one other
+      answers =
+          record {
+            no-trail = no-trail;
+            done = done;
+            joins = (λ y. done .1 (joined-window agrees one other are .0 y), λ e. joined-window agrees one other are .1 (done .0 e));
+            handed = λ e. rw (chain-done e) (given-handed (positive e));
+            apart = λ e apart. rw (chain-done e) (given-apart are (positive e) apart);
+            itself = λ e. rw (chain-done (done .1 (same e))) (given-itself e);
+          }
+
+-- ---- after any calls
+
+pub chain : Chain ours
+chain =
+    record {
+      number = λ s cs h told chain one other. let a = keeps s cs h told in chain-gives a one other chain ∙ chain-number a one other chain;
+      answers = λ s cs h told chain places one other are. answers (keeps s cs h told) one other chain places are;
+    }

@@ -1,0 +1,60 @@
+-- The windows to come, if nothing is logged: those of the history at slide k + c, c closings after the open slide k. Each closing
+-- takes the links of one slide away, so the window at k + c has the links of the slides from k + c + 1 - n on, as far as they exist.
+use Prim.Native.Nat.{ℕ, _+_, _≤_, _<_}
+use mathlib.Core.Path.{_≡_, ap}
+use mathlib.Core.Bool.{Bool, true, false, cond, _&&_, and-eq-true-iff}
+use mathlib.Core.List.{List, _∷_}
+use mathlib.Core.Logic.{_↔_}
+use native.Mathlib.Omega.{arith}
+use native.Mathlib.Nat.{add-zero}
+use lib.Dec.{leb}
+use borrow.Author.Tests.{le-leb, lt-ltb, ltb-true, leb-true}
+use Rattle.graph.specs.Link.{Link, Linked, along, against, here, there}
+use Rattle.graph.proofs.Chains.{Relinks}
+use Rattle.graph.proofs.Distinct.{Inside}
+use Rattle.book.specs.Arrays.{cells}
+use Rattle.promises.specs.History.{Stored, History, openSlideIn, ofSlides, linksOf, inWindow, windowAt, windowOf, linksSince}
+use Rattle.promises.proofs.Agrees.{Falling, next, Sensible}
+use Rattle.promises.proofs.Lists.{same-test, same-slides}
+use Rattle.promises.proofs.BySlide.{of-slide, in-slide}
+
+-- the links of the window c closings later
+abbrev pub closed : History → ℕ → List Link
+closed h c = linksOf (windowAt h (openSlideIn h + c))
+
+pub closed-now : (h : History) → closed h 0 ≡ windowOf h
+closed-now h = ap (λ k. linksOf (windowAt h k)) (add-zero (openSlideIn h))
+
+-- both ends of each link are cells
+ends-picked : (wanted : ℕ → Bool) {k : ℕ} {ss : List Stored} → Falling k ss → Inside cells (linksOf (ofSlides wanted ss))
+unfolding ofSlides
+ends-picked wanted (next {s} {ss} _ a b falls) x y h = go (wanted (s .slide)) h (ends-picked wanted falls x y)
+  where
+    go : (t : Bool) → Linked x y (linksOf (cond t (s ∷ ofSlides wanted ss) (ofSlides wanted ss))) →
+        (Linked x y (linksOf (ofSlides wanted ss)) → x < cells) → x < cells
+    go true (here (along p q)) on = rw (← p) a
+    go true (here (against p q)) on = rw (← q) b
+    go true (there l) on = on l
+    go false l on = on l
+
+module _ {h : History} (sensible : Sensible h) where
+  pub closed-inside : (c : ℕ) → Inside cells (closed h c)
+  closed-inside c = ends-picked _ (sensible .falling)
+
+  -- fewer closings leave more links
+  pub closed-fewer : {c d : ℕ} → d ≤ c → Relinks (closed h c) (closed h d)
+  closed-fewer {c} {d} le x y l =
+      let i = in-slide (inWindow (h .settings .n) (openSlideIn h + c)) (sensible .falling) x y l in
+      let young : openSlideIn h + c < i .slide + h .settings .n = ltb-true _ _ (and-eq-true-iff (leb (i .slide) (openSlideIn h + c)) _ .0 (i .picked) .1) in
+      of-slide _ (i .slide) (h .links)
+      (rw (le-leb (i .slide) (openSlideIn h + d) (omega arith)) (lt-ltb (openSlideIn h + d) (i .slide + h .settings .n) (omega arith)))
+      x y (i .linked)
+
+  -- a window that starts with slide l has the links of slides l to k
+  pub closed-since : (c l : ℕ) → ((t : ℕ) → t ≤ openSlideIn h → (openSlideIn h + c < t + h .settings .n) ↔ (l ≤ t)) → closed h c ≡ linksSince h l
+  closed-since c l starts =
+      ap linksOf
+      (same-slides (sensible .falling) _ _
+      (λ t le. same-test (inWindow (h .settings .n) (openSlideIn h + c) t) (leb l t && leb t (openSlideIn h))
+      (λ e. rw (le-leb l t (starts t le .0 (ltb-true _ _ (and-eq-true-iff (leb t (openSlideIn h + c)) _ .0 e .1)))) (le-leb _ _ le))
+      (λ e. rw (le-leb t (openSlideIn h + c) (omega arith)) (lt-ltb _ _ (starts t le .1 (leb-true l t (and-eq-true-iff _ (leb t (openSlideIn h)) .0 e .0)))))))

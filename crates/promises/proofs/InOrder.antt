@@ -1,0 +1,82 @@
+-- A book that agrees with a history is in order: number 1 never comes from it.
+--
+-- The settings were taken, so the clock and the mounting are in range. The lists hold forests of links between cells with
+-- places as labels, whose ranges and walks the crate graph knows.
+use Prim.Native.Nat.{ℕ, _%_, _≤_, zero-le}
+use mathlib.Core.Path.{_≡_, refl, ap, subst⁻¹}
+use mathlib.Core.Bool.{Bool, true, false, cond}
+use native.Mathlib.Omega.{arith}
+use native.Mathlib.Nat.{le-refl, mod-lt, suc-le-suc-iff}
+use lib.Dec.{leb}
+use borrow.Author.Tests.{le-leb}
+use Rattle.graph.specs.Forest.{Forest, Each}
+use Rattle.graph.proofs.Cut.{label-bounded}
+use Rattle.settings.specs.Settings.{inRange, takenNumber, heldInRange}
+use Rattle.settings.specs.declared.Settings.{Settings}
+use Rattle.slides.specs.Clock.{started, clockInRange}
+use Rattle.slides.proofs.Slides.{InRange, in-range, started-in-range}
+use Rattle.forest.specs.Arrays.{labelIn, every, within, labelsWithin}
+use Rattle.forest.proofs.Every.{each-every, within-both}
+use Rattle.book.specs.Order.{inOrder, inOrderOf}
+use Rattle.promises.specs.History.{Stored, History, clockIn, backwardLinks}
+use Rattle.promises.specs.Panel.{State}
+use Rattle.promises.proofs.Agrees.{Sensible, Agrees}
+use Rattle.promises.proofs.BySlide.{labelBy}
+use Rattle.promises.proofs.Forests.{scanned, each-made, forward-ends, backward-ends}
+use Rattle.book.proofs.Built.{each-reverse, forest-sound}
+
+-- ---- what was taken is in range
+
+taken-range : (s : Settings) → takenNumber s ≡ 0 → heldInRange (s .n) (s .b) (s .mounting) ≡ true
+taken-range s = go (inRange (s .n) (s .b) (s .mounting))
+  where
+    go : (t : Bool) → _≡_ {A = ℕ} (cond t 0 2) 0 → t ≡ true
+    go true e = refl
+    go false e = absurd (omega arith)
+
+pub sensible-range : (h : History) → Sensible h → InRange (clockIn h)
+sensible-range h sensible =
+    let r : InRange (started (h .settings)) = in-range (started (h .settings)) .0 (started-in-range (h .settings) (sensible .taken)) in
+    record { n-least = r .n-least; n-most = r .n-most; b-least = r .b-least; time-from = sensible .since }
+
+-- labels are places
+pub backward-labels : (h : History) → Sensible h → Each (λ x. x .label ≤ 15) (backwardLinks h)
+backward-labels h sensible = each-reverse (each-made (labelBy (λ t. t % h .settings .n)) place (scanned h))
+  where
+    r : InRange (clockIn h)
+    r = sensible-range h sensible
+
+    place : (s : Stored) → s .slide % h .settings .n ≤ 15
+    place s = omega (arith, mod-lt (s .slide) (r .n-least), r .n-most)
+
+module _ {h : History} {s : State} (a : Agrees h s) where
+  label-most : (c : ℕ) → labelIn (s .book .«backward_label») c ≤ 15
+  label-most c =
+      subst⁻¹ (λ (f : Forest). f .label c ≤ 15) (a .backward)
+      (label-bounded (le-refl 10) (backward-ends (a .sensible)) 15 (backward-labels h (a .sensible)) c)
+
+  pub agrees-in-order : inOrder (s .book) ≡ true
+  unfolding inOrderOf
+  agrees-in-order =
+      simp (
+        clock,
+        settings,
+        counts,
+        forest-sound (s .book .«forward_parent») (s .book .«forward_size») (a .forward-long) (a .forward-parents) (a .forward-sizes)
+            (forward-ends (a .sensible)),
+        forest-sound (s .book .«backward_parent») (s .book .«backward_size») (a .backward-long .0, a .backward-long .1)
+            (ap (λ f. f .parent) (a .backward)) (ap (λ f. f .size) (a .backward)) (backward-ends (a .sensible)),
+        labels,
+      )
+    where
+      clock : clockInRange (s .book .clock) ≡ true
+      clock = rw (a .clock) (in-range (clockIn h) .1 (sensible-range h (a .sensible)))
+
+      settings : heldInRange (s .book .clock .n) (s .book .clock .b) (s .book .mounting) ≡ true
+      settings = rw (a .clock, a .mounting) (taken-range (h .settings) (a .sensible .taken))
+
+      counts : every (within 0 257) 0 (s .book .counts) ≡ true
+      counts = each-every (within 0 257) (s .book .counts) (λ i h. within-both 0 257 i _ zero-le (suc-le-suc-iff .1 (a .counts-few i)))
+
+      labels : labelsWithin (s .book .«backward_label») 15 ≡ true
+      labels = each-every (λ c x. leb x 15) (s .book .«backward_label») (λ c h. le-leb _ 15 (label-most c))

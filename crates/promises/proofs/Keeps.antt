@@ -1,0 +1,160 @@
+-- Calls keep a book and its log in agreement with the history that they tell, from any book and log on.
+--
+-- A call gives the number that the history gives. Where that is not 0, neither changes. Where it is 0 the call is an opening,
+-- with which agreement begins (KeptByOpening); or time moves (KeptByTime), and for a link it is then stored (KeptByLink).
+-- Before the first opening that gives 0 there is nothing to keep, but that the log has as many places as ever.
+use Prim.Native.Nat.{ℕ, zero, suc}
+use mathlib.Core.Path.{_≡_, refl, sym, _∙_, subst, subst⁻¹}
+use mathlib.Core.Bool.{true, and-eq-true-iff}
+use mathlib.Core.List.{List, [], _∷_}
+use mathlib.Core.Option.{Option, none, some}
+use lib.Dec.{ltb}
+use lib.ListN.{set, length-set}
+use borrow.Author.Tests.{ltb-true}
+use Rattle.settings.specs.declared.Settings.{Settings}
+use Rattle.cells.specs.Cell.{sectors, lorryCell}
+use Rattle.cells.specs.Cell.Laws.{lorry-is-cell}
+use Rattle.slides.specs.Clock.{notBefore}
+use Rattle.book.specs.Arrays.{cells}
+use Rattle.book.specs.Time.{movedBook}
+use Rattle.book.specs.Calls.{logPlaces, openingNumber, openingBy, openingOf, linkNumber, linkStored, linkBy, linkOf, clockBy, clockOf}
+use Rattle.promises.specs.History.{
+  Call,
+  opening,
+  link,
+  clock,
+  History,
+  clockIn,
+  numberIn,
+  withTime,
+  lorryLink,
+  withLink,
+  added,
+  addedBy,
+  firstBy,
+  oneMore,
+  historyFrom,
+}
+use Rattle.promises.specs.Panel.{ours, State, stateOf, gives, after}
+use Rattle.promises.specs.Demands.{roomIn, Told}
+use Rattle.promises.proofs.Agrees.{Agrees}
+use Rattle.promises.proofs.Numbers.{has-front, has-long}
+use Rattle.book.proofs.Checks.{first-passed, unless-passed, Taken, taken}
+use Rattle.promises.proofs.NumbersAgree.{stored-agrees, link-number, clock-number}
+use Rattle.promises.proofs.KeptByOpening.{opening-agrees}
+use Rattle.promises.proofs.KeptByTime.{slide-then, time-agrees}
+use Rattle.promises.proofs.KeptByLink.{link-agrees}
+
+-- ---- the log's places
+
+opening-room : (s : State) (settings : Settings) → roomIn (stateOf (openingOf (s .book) (s .log) settings)) ≡ roomIn s
+unfolding openingOf openingBy openingNumber
+opening-room s settings = go (openingNumber settings (s .log)) refl
+  where
+    go : (k : ℕ) → openingNumber settings (s .log) ≡ k → roomIn (stateOf (openingBy k (s .book) (s .log) settings)) ≡ roomIn s
+    go zero e = has-front logPlaces _ ∙ sym (unless-passed _ 5 (first-passed _ [] (first-passed _ _ e .1) .0))
+    go (suc k) e = refl
+
+link-room : (s : State) (tick one other k : ℕ) → roomIn (stateOf (linkBy k (s .book) (s .log) tick one other)) ≡ roomIn s
+unfolding linkBy linkStored
+link-room s tick one other zero = has-long logPlaces _ (s .log) (length-set (set (s .log) _ _) _ _ ∙ length-set (s .log) _ _)
+link-room s tick one other (suc k) = refl
+
+clock-room : (s : State) (tick k : ℕ) → roomIn (stateOf (clockBy k (s .book) (s .log) tick)) ≡ roomIn s
+unfolding clockBy
+clock-room s tick zero = refl
+clock-room s tick (suc k) = refl
+
+room-kept : (s : State) (c : Call) → roomIn (stateOf (gives ours s c)) ≡ roomIn s
+unfolding gives linkOf clockOf
+room-kept s (opening settings) = opening-room s settings
+room-kept s (link tick one other) = link-room s tick one other _
+room-kept s (clock tick) = clock-room s tick _
+
+pub room-after : (s : State) (cs : List Call) → roomIn (after ours s cs) ≡ roomIn s
+unfolding after
+room-after s [] = refl
+room-after s (c ∷ cs) = room-after (stateOf (gives ours s c)) cs ∙ room-kept s c
+
+-- ---- one call more
+
+-- what is told so far, and a book and log that agree with it
+Fits : Option History → State → Type 0
+Fits none s = Unit {0}
+Fits (some h) s = Agrees h s
+
+-- an opening where there was no history, by its number
+opening-fits : (s : State) (settings : Settings) (k : ℕ) → openingNumber settings (s .log) ≡ k
+    → Fits (firstBy k settings) (stateOf (openingBy k (s .book) (s .log) settings))
+unfolding Fits firstBy openingBy openingNumber
+opening-fits s settings zero e = opening-agrees settings (s .log) (first-passed _ _ e .0)
+opening-fits s settings (suc k) e = tt
+
+module _ {h : History} {s : State} (a : Agrees h s) where
+  opening-step : (settings : Settings) (k : ℕ) → openingNumber settings (s .log) ≡ k
+      → Agrees (addedBy k h (opening settings)) (stateOf (openingBy k (s .book) (s .log) settings))
+  unfolding addedBy added openingBy openingNumber
+  opening-step settings zero e = opening-agrees settings (s .log) (first-passed _ _ e .0)
+  opening-step settings (suc k) e = a
+
+  clock-step : (tick k : ℕ) → numberIn (roomIn s) h (clock tick) ≡ k
+      → Agrees (addedBy k h (clock tick)) (stateOf (clockBy k (s .book) (s .log) tick))
+  unfolding addedBy added clockBy numberIn
+  clock-step tick zero e = time-agrees a tick (unless-passed _ 3 e)
+  clock-step tick (suc k) e = a
+
+  -- what a link leaves, once time has moved: its cells are stored in the numbers of this mounting
+  abbrev linked : ℕ → ℕ → ℕ → ℕ → State
+  linked tick one other mounting =
+      stateOf (linkStored (movedBook (s .book) (s .log) tick) (s .log) (lorryCell mounting one) (lorryCell mounting other))
+
+  link-done : (tick one other : ℕ) → Taken (s .book) (s .log) tick one other
+      → Agrees (withLink (withTime h tick) (lorryLink h one other)) (linked tick one other (s .book .mounting))
+  link-done tick one other t =
+      subst⁻¹ (λ m. Agrees (withLink (withTime h tick) (lorryLink h one other)) (linked tick one other m)) (a .mounting)
+      (link-agrees (time-agrees a tick later) (lorryLink h one other)
+      (lorry-is-cell sectors (h .settings .mounting) one (ltb-true one cells (two .0)))
+      (lorry-is-cell sectors (h .settings .mounting) other (ltb-true other cells (two .1)))
+      (rw (slide-then a tick later, ← (stored-agrees a tick later)) (t .few)))
+    where
+      later : notBefore (clockIn h) tick ≡ true
+      later = rw (a .clock) at (t .later)
+
+      two : (ltb one cells ≡ true) × (ltb other cells ≡ true)
+      two = and-eq-true-iff _ _ .0 (t .cells)
+
+  link-step : (tick one other k : ℕ) → linkNumber (s .book) (s .log) tick one other ≡ k
+      → Agrees (addedBy k h (link tick one other)) (stateOf (linkBy k (s .book) (s .log) tick one other))
+  unfolding addedBy added linkBy
+  link-step tick one other zero e = link-done tick one other (taken (s .book) (s .log) tick one other e)
+  link-step tick one other (suc k) e = a
+
+  pub step : (c : Call) → Agrees (addedBy (numberIn (roomIn s) h c) h c) (stateOf (gives ours s c))
+  unfolding gives openingOf linkOf clockOf numberIn openingNumber
+  step (opening settings) = opening-step settings _ refl
+  step (link tick one other) = rw (← (link-number a tick one other)) (link-step tick one other _ refl)
+  step (clock tick) = rw (clock-number a tick) (clock-step tick _ refl)
+
+more-fits : (s : State) (o : Option History) (c : Call) → Fits o s → Fits (oneMore (roomIn s) o c) (stateOf (gives ours s c))
+unfolding Fits oneMore gives openingOf openingNumber
+more-fits s none (opening settings) f = opening-fits s settings _ refl
+more-fits s none (link tick one other) f = tt
+more-fits s none (clock tick) f = tt
+more-fits s (some h) c f = step f c
+
+-- ---- all calls
+
+told-fits : (s : State) (o : Option History) (h : History) → Fits o s → o ≡ some h → Agrees h s
+unfolding Fits
+told-fits s o h f e = subst (λ o. Fits o s) e f
+
+keeps-from : (cs : List Call) (s : State) (o : Option History) (h : History) → Fits o s → historyFrom (roomIn s) o cs ≡ some h
+    → Agrees h (after ours s cs)
+unfolding historyFrom after
+keeps-from [] s o h f e = told-fits s o h f e
+keeps-from (c ∷ cs) s o h f e =
+    keeps-from cs (stateOf (gives ours s c)) (oneMore (roomIn s) o c) h (more-fits s o c f) (rw (room-kept s c) e)
+
+pub keeps : (s : State) (cs : List Call) (h : History) → Told s cs h → Agrees h (after ours s cs)
+unfolding Fits
+keeps s cs h told = keeps-from cs s none h tt told

@@ -1,0 +1,88 @@
+-- An opening that gives 0 leaves a book and a log that agree with the history that begins there, whatever they were.
+--
+-- More is shown, since it serves where time jumps over a chunk: a book with nothing stored agrees with every history that has
+-- no links in the open chunk and in the one before it.
+use Prim.Native.Nat.{ℕ, _+_, _/_, _%_, _≤_, zero-le}
+use mathlib.Core.Path.{_≡_, refl, sym, _∙_, ap}
+use mathlib.Core.Bool.{Bool, true, and-eq-true-iff}
+use mathlib.Core.Logic.{inl, inr}
+use mathlib.Core.List.{List, [], _++_, map, reverse}
+use native.Mathlib.Omega.{arith}
+use native.Mathlib.Nat.{le-refl}
+use lib.Dec.{leb}
+use lib.ListN.{getD, drop, replicate}
+use borrow.Author.Tests.{eqb-true}
+use Rattle.graph.specs.Forest.{Labelled, forestOf}
+use Rattle.settings.specs.Settings.{takenNumber}
+use Rattle.settings.specs.declared.Settings.{Settings}
+use Rattle.slides.specs.Clock.{started}
+use Rattle.forest.specs.Arrays.{held}
+use Rattle.book.specs.Arrays.{most, freshArrays}
+use Rattle.book.specs.Log.{linksFrom}
+use Rattle.book.specs.Time.{emptied}
+use Rattle.book.specs.Calls.{has, logPlaces}
+use Rattle.promises.specs.History.{History, clockIn, chunkIn, ofSlides, howMany, slideLinks, begun, forwardLinks, backwardLinks}
+use Rattle.promises.specs.Panel.{State}
+use Rattle.promises.proofs.Agrees.{none, Sensible, Live, spotIn, Kept, Agrees}
+use Rattle.promises.proofs.Numbers.{has-front}
+use Rattle.book.proofs.Moves.{zeros}
+use Rattle.promises.proofs.BySlide.{labelBy}
+use Rattle.book.proofs.Built.{holds-fresh}
+
+-- a slide without links is kept where its count is 0
+pub kept-none : (h : History) (s : State) (t : ℕ) → slideLinks t (h .links) ≡ [] → getD (s .book .counts) (spotIn h t) 0 ≡ 0 → Kept h s t
+unfolding howMany linksFrom
+kept-none h s t e c = record { count = rw e c; links = rw e }
+
+-- fresh lists hold the forest of no links
+pub fresh-forest : {xs : List Labelled} → xs ≡ []
+    → held (freshArrays .parents) (freshArrays .sizes) (freshArrays .labels) ≡ forestOf most xs
+fresh-forest e = holds-fresh .holds ∙ ap (forestOf most) (sym e)
+
+-- no links of slides of the open chunk and the one before it, nor of later ones
+abbrev pub Bare : History → Type 0
+Bare h = (wanted : ℕ → Bool) → ((t : ℕ) → wanted t ≡ true → chunkIn h ≤ t / h .settings .n + 1) → ofSlides wanted (h .links) ≡ []
+
+module _ (h : History) (bare : Bare h) where
+  forward-none : forwardLinks h ≡ []
+  forward-none = ap (map (labelBy (λ t. 0))) (bare _ (λ t e. omega (arith, eqb-true (t / h .settings .n) (chunkIn h) e)))
+
+  backward-none : backwardLinks h ≡ []
+  backward-none =
+      ap (λ ss. reverse (map (labelBy (λ t. t % h .settings .n)) ss))
+      (bare _ (λ t e. omega (arith, eqb-true (t / h .settings .n + 1) (chunkIn h) (and-eq-true-iff _ (leb 1 (t % h .settings .n)) .0 e .0))))
+
+  slide-none : (t : ℕ) → Live h t → slideLinks t (h .links) ≡ []
+  slide-none t live = bare _ (λ u e. rw (eqb-true u t e) (near live))
+    where
+      near : Live h t → chunkIn h ≤ t / h .settings .n + 1
+      near (inl e) = omega arith
+      near (inr e) = omega arith
+
+  pub emptied-agrees : (log : List ℕ) → Sensible h → has logPlaces log ≡ true
+      → Agrees h (record { book = emptied (clockIn h) (h .settings .mounting); log = log })
+  unfolding emptied
+  emptied-agrees log sensible room =
+      record {
+        sensible = sensible;
+        clock = refl;
+        mounting = refl;
+        room = room;
+        counts-long = refl;
+        counts-few = λ spot. rw (zeros 32 spot) zero-le;
+        kept = λ t live. kept-none h _ t (slide-none t live) (zeros 32 (spotIn h t));
+        forward-long = (holds-fresh .parents-long, holds-fresh .sizes-long);
+        backward-long = (holds-fresh .parents-long, holds-fresh .sizes-long, holds-fresh .labels-long);
+        forward-parents = ap (λ f. f .parent) (fresh-forest forward-none);
+        forward-sizes = ap (λ f. f .size) (fresh-forest forward-none);
+        backward = fresh-forest backward-none;
+      }
+
+begun-sensible : (s : Settings) → takenNumber s ≡ 0 → Sensible (begun s)
+unfolding howMany ofSlides
+begun-sensible s e = record { taken = e; since = le-refl (s .t0); falling = none; few = λ t. zero-le }
+
+pub opening-agrees : (s : Settings) (log : List ℕ) → takenNumber s ≡ 0
+    → Agrees (begun s) (record { book = emptied (started s) (s .mounting); log = replicate logPlaces 0 ++ drop logPlaces log })
+unfolding ofSlides
+opening-agrees s log e = emptied-agrees (begun s) (λ wanted far. refl) _ (begun-sensible s e) (has-front logPlaces _)

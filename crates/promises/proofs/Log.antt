@@ -1,0 +1,92 @@
+-- The log: what its links are depends on the entries of their own places alone, and a link more stands after those before it.
+-- Two spots of 512 places each do not overlap.
+use Prim.Native.Nat.{ℕ, zero, suc, _+_, _≤_, _<_}
+use mathlib.Core.Path.{_≡_, refl, _∙_, ap}
+use mathlib.Core.Bool.{Bool, true, false, cond, _&&_}
+use mathlib.Core.List.{List, [], _∷_, _++_}
+use mathlib.Core.Logic.{_⊎_, inl, inr}
+use native.Mathlib.Omega.{arith}
+use native.Mathlib.Nat.{add-zero}
+use native.Mathlib.Decide.{decLt}
+use lib.Dec.{ltb}
+use lib.ListN.{length, getD, set, length-set}
+use lib.Seq.{getD-set-same, getD-set-other}
+use borrow.Author.Tests.{lt-ltb}
+use Rattle.graph.specs.Link.{Link}
+use Rattle.book.specs.Arrays.{cells}
+use Rattle.book.specs.Log.{startOf, keep, pairAt, linksFrom}
+
+-- logs that agree on the places of the links hold the same links
+links-same : (log log′ : List ℕ) (at n : ℕ) → ((i : ℕ) → at ≤ i → i < at + (n + n) → getD log i 0 ≡ getD log′ i 0)
+    → linksFrom log at n ≡ linksFrom log′ at n
+unfolding linksFrom
+links-same log log′ at zero e = refl
+links-same log log′ at (suc n) e =
+    let rest = links-same log log′ (at + 2) n (λ i l h. e i (omega arith) (omega arith)) in
+    rw (e at (omega arith) (omega arith), e (at + 1) (omega arith) (omega arith), rest)
+
+-- the last link stands at the end
+keep-end : (l : Link) (ls ms : List Link) → keep l (ls ++ ms) ≡ keep l ls ++ ms
+keep-end l ls ms = go (ltb (l .one) cells && ltb (l .other) cells)
+  where
+    go : (t : Bool) → cond t (l ∷ (ls ++ ms)) (ls ++ ms) ≡ cond t (l ∷ ls) ls ++ ms
+    go true = refl
+    go false = refl
+
+keep-cells : (l : Link) (ls : List Link) → l .one < cells → l .other < cells → keep l ls ≡ l ∷ ls
+keep-cells l ls one other = rw (lt-ltb _ _ one, lt-ltb _ _ other)
+
+links-more : (log : List ℕ) (at n : ℕ) → linksFrom log at (suc n) ≡ linksFrom log at n ++ keep (pairAt log (at + (n + n))) []
+unfolding linksFrom
+links-more log at zero = rw (add-zero at)
+links-more log at (suc n) =
+    ap (keep (pairAt log at))
+    (links-more log (at + 2) n ∙ ap (λ i. linksFrom log (at + 2) n ++ keep (pairAt log i) []) (omega arith))
+    ∙ keep-end (pairAt log at) (linksFrom log (at + 2) n) _
+
+-- ---- a pair of cells stored
+
+abbrev pub paired : List ℕ → ℕ → Link → List ℕ
+paired log at l = set (set log at (l .one)) (at + 1) (l .other)
+
+module _ (log : List ℕ) (at : ℕ) (l : Link) where
+  pub paired-long : length (paired log at l) ≡ length log
+  paired-long = length-set (set log at (l .one)) (at + 1) (l .other) ∙ length-set log at (l .one)
+
+  paired-other : (i : ℕ) → (i ≡ at → ⊥) → (i ≡ at + 1 → ⊥) → getD (paired log at l) i 0 ≡ getD log i 0
+  paired-other i n m = getD-set-other (set log at (l .one)) (at + 1) i (l .other) 0 m ∙ getD-set-other log at i (l .one) 0 n
+
+  paired-here : at + 1 < length log → pairAt (paired log at l) at ≡ l
+  paired-here h =
+      λ i.
+      record {
+        one =
+            (getD-set-other (set log at (l .one)) (at + 1) at (l .other) 0 (omega arith) ∙ getD-set-same log at (l .one) 0 (omega arith)) i;
+        other = getD-set-same (set log at (l .one)) (at + 1) (l .other) 0 (rw length-set h) i;
+      }
+
+-- links elsewhere are as before
+links-elsewhere : (log : List ℕ) (at : ℕ) (l : Link) (start n : ℕ) → (at + 1 < start) ⊎ (start + (n + n) ≤ at)
+    → linksFrom (paired log at l) start n ≡ linksFrom log start n
+links-elsewhere log at l start n (inl before) = links-same _ log start n (λ i a b. paired-other log at l i (omega arith) (omega arith))
+links-elsewhere log at l start n (inr after) = links-same _ log start n (λ i a b. paired-other log at l i (omega arith) (omega arith))
+
+-- and after n links there is one more
+pub links-stored : (log : List ℕ) (start n : ℕ) (l : Link) → l .one < cells → l .other < cells → start + (n + n) + 1 < length log
+    → linksFrom (paired log (start + (n + n)) l) start (suc n) ≡ linksFrom log start n ++ (l ∷ [])
+links-stored log start n l one other h =
+    let log′ : List ℕ = paired log (start + (n + n)) l in
+    links-more log′ start n
+    ∙ ap (λ p. linksFrom log′ start n ++ keep p []) (paired-here log (start + (n + n)) l h)
+    ∙ ap (λ ls. linksFrom log′ start n ++ ls) (keep-cells l [] one other)
+    ∙ ap (λ ls. ls ++ (l ∷ [])) (links-elsewhere log (start + (n + n)) l start n (inr (omega arith)))
+
+-- a link stored at a spot with less than 256 is no link of another spot
+pub links-other-spot : (log : List ℕ) (spot count : ℕ) (l : Link) (spot′ count′ : ℕ) → (spot′ ≡ spot → ⊥) → count < 256 → count′ ≤ 256
+    → linksFrom (paired log (startOf spot + (count + count)) l) (startOf spot′) count′ ≡ linksFrom log (startOf spot′) count′
+links-other-spot log spot count l spot′ count′ n c c′ = links-elsewhere log _ l (startOf spot′) count′ (side (decLt spot spot′))
+  where
+    side : Dec (spot < spot′)
+        → (startOf spot + (count + count) + 1 < startOf spot′) ⊎ (startOf spot′ + (count′ + count′) ≤ startOf spot + (count + count))
+    side (yes h) = inl (omega arith)
+    side (no h) = inr (omega arith)

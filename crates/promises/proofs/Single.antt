@@ -1,0 +1,78 @@
+-- For each public contract, two results that it allows are equal. Every contract but one is an equality with a definition, of the
+-- result or of each of its parts. The crossing's says of yes and of no what each means, and the two exclude each other.
+use Prim.Native.Nat.{ℕ}
+use mathlib.Core.Path.{_≡_, sym, _∙_}
+use mathlib.Core.List.{List}
+use Rattle.crossing.proofs.Joined.{one-answer}
+use Rattle.book.specs.declared.Answer.{Answer}
+use Rattle.book.specs.Calls.{Outcome, Gives}
+use Rattle.promises.specs.Single.{AtMostOne, Single}
+
+-- two that equal a third
+equal : {A : Type 0} {x : A} → AtMostOne (λ r. r ≡ x)
+equal r s p q = p ∙ sym q
+
+-- two results, part by part
+both : {A B : Type 0} {x : A} {y : B} → AtMostOne {A = A × B} (λ r. (r .0 ≡ x) × (r .1 ≡ y))
+both r s p q = λ i. (equal (r .0) (s .0) (p .0) (q .0) i, equal (r .1) (s .1) (p .1) (q .1) i)
+
+gives : (o : Outcome) → AtMostOne {A = Answer × List ℕ} (λ r. Gives o (r .0) (r .1))
+gives o r s p q = both r s (p .answered, p .logged) (q .answered, q .logged)
+
+pub single : Single
+single =
+    record {
+      never-opened = equal;
+      in-order = λ clock mounting counts fp fs bp bs bl. equal;
+      spot = λ clock slide. equal;
+      stored = λ clock counts slide. equal;
+      clear = λ places count. equal;
+      opening = λ b log s. gives _;
+      link = λ b log tick one other. gives _;
+      clock = λ b log tick r s p q. equal r s (p .answered) (q .answered);
+      joined = λ b one other. equal;
+      gather = λ b log ones others labels r s p q i. (
+        equal (r .0) (s .0) (p .until) (q .until) i,
+        equal (r .1) (s .1) (p .first) (q .first) i,
+        equal (r .2) (s .2) (p .second) (q .second) i,
+        equal (r .3) (s .3) (p .third) (q .third) i,
+      );
+      grow = λ ones others labels count before. equal;
+      highest-label = λ parent label top one other. equal;
+      chain = λ b log chain one other r s p q. both r s (p .answered, p .written) (q .answered, q .written);
+      read = λ file. equal;
+      write = λ s records out. both;
+      judge = λ s. equal;
+      mirrored = λ cell. equal;
+      lorry-cell = λ mounting cell. equal;
+      start = λ s. equal;
+      in-range = λ clock. equal;
+      not-before = λ clock tick. equal;
+      slide = λ clock tick. equal;
+      open-slide = λ clock. equal;
+      chunk = λ clock slide. equal;
+      place = λ clock slide. equal;
+      moved = λ clock tick. equal;
+      advance = λ clock tick. equal;
+      advanced = λ clock tick. equal;
+      fresh-parents = equal;
+      fresh-sizes = equal;
+      fresh-labels = equal;
+      hang = λ parent size most one other. equal;
+      hang-parent = λ parent h. equal;
+      hang-size = λ size h. equal;
+      hang-label = λ label h place. equal;
+      unite = λ parent size label most place one other r s p q i. (
+        equal (r .0) (s .0) (p .parents) (q .parents) i,
+        equal (r .1) (s .1) (p .sizes) (q .sizes) i,
+        equal (r .2) (s .2) (p .labels) (q .labels) i,
+      );
+      sound = λ parent size most. equal;
+      all-within = λ numbers low end. equal;
+      labels-within = λ label bound. equal;
+      walk = λ parent most cell. equal;
+      walk-at = λ parent label most cut cell. equal;
+      roots = λ parent most. equal;
+      roots-at = λ parent label most cut. equal;
+      joined-across = λ backward forward one other. one-answer;
+    }

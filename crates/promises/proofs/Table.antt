@@ -1,0 +1,25 @@
+-- Demand 0, Table: the number that the book gives is the number that the history gives. Calls keep book and log in agreement
+-- with the history (Keeps), and where they agree so do the numbers (NumbersAgree). An opening's number asks for neither.
+use mathlib.Core.Path.{_≡_, _∙_, ap}
+use mathlib.Core.List.{[], _∷_}
+use Rattle.settings.specs.Settings.{takenNumber}
+use Rattle.settings.specs.declared.Settings.{Settings}
+use Rattle.book.specs.Calls.{firstOf, unless, openingNumber}
+use Rattle.promises.specs.History.{opening, numberIn}
+use Rattle.promises.specs.Panel.{ours, State, gives}
+use Rattle.promises.specs.Demands.{roomIn, Table}
+use Rattle.promises.proofs.NumbersAgree.{opening-gives, number-agrees, asked-agrees}
+use Rattle.promises.proofs.Keeps.{room-after, keeps}
+
+openings : (s : State) (settings : Settings)
+    → gives ours s (opening settings) .number ≡ firstOf (takenNumber settings ∷ unless (roomIn s) 6 ∷ [])
+unfolding gives openingNumber
+openings s settings = opening-gives (s .book) (s .log) settings
+
+pub table : Table ours
+table =
+    record {
+      openings = openings;
+      calls = λ s cs h told c. number-agrees (keeps s cs h told) c ∙ ap (λ room. numberIn room h c) (room-after s cs);
+      asks = λ s cs h told one other. asked-agrees (keeps s cs h told) one other;
+    }

@@ -1,0 +1,6 @@
+pub mod Cases
+pub mod Demands
+pub mod Fakes
+pub mod History
+pub mod Panel
+pub mod Single

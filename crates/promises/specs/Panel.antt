@@ -1,0 +1,50 @@
+-- A panel: what each call gives, as definitions. `ours` are those that the contracts cite. The demands are stated over any
+-- panel, so that they can be proved of ours and refuted for fakes.
+use Prim.Native.Nat.{ℕ}
+use mathlib.Core.List.{List, [], _∷_}
+use Rattle.settings.specs.declared.Settings.{Settings}
+use Rattle.book.specs.declared.Book.{Book}
+use Rattle.book.specs.declared.JoinedAnswer.{JoinedAnswer}
+use Rattle.book.specs.Calls.{Outcome, openingOf, linkOf, clockOf, joinedOf}
+use Rattle.trail.specs.Chain.{ChainOutcome, chainOf}
+use Rattle.promises.specs.History.{Call, opening, link, clock}
+
+pub record Panel : Type 0 where
+  pub openingGives : Book → List ℕ → Settings → Outcome
+  pub linkGives : Book → List ℕ → ℕ → ℕ → ℕ → Outcome
+  pub clockGives : Book → List ℕ → ℕ → Outcome
+  pub joinedGives : Book → ℕ → ℕ → JoinedAnswer
+  pub chainGives : Book → List ℕ → List ℕ → ℕ → ℕ → ChainOutcome
+
+abbrev pub ours : Panel
+ours =
+    record {
+      openingGives = openingOf;
+      linkGives = linkOf;
+      clockGives = clockOf;
+      joinedGives = joinedOf;
+      chainGives = chainOf;
+    }
+
+-- the book and its log together are the state
+pub record State : Type 0 where
+  pub book : Book
+  pub log : List ℕ
+
+abbrev pub stateOf : Outcome → State
+stateOf o = record { book = o .book; log = o .log }
+
+-- what a call gives
+unfoldable pub gives : Panel → State → Call → Outcome
+gives p s (opening settings) = p .openingGives (s .book) (s .log) settings
+gives p s (link tick one other) = p .linkGives (s .book) (s .log) tick one other
+gives p s (clock tick) = p .clockGives (s .book) (s .log) tick
+
+-- the state after calls, one after the other, from any book and log
+unfoldable pub after : Panel → State → List Call → State
+after p s [] = s
+after p s (c ∷ cs) = after p (stateOf (gives p s c)) cs
+
+-- what the chain call gives, for a chain buffer and two cells
+abbrev pub givesChain : Panel → State → List ℕ → ℕ → ℕ → ChainOutcome
+givesChain p s chain one other = p .chainGives (s .book) (s .log) chain one other

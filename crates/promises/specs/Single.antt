@@ -1,0 +1,109 @@
+-- Document 01, "What the contracts have to settle": for each public contract, two results that it allows are equal. A result is
+-- what the call returns and what its lent buffers hold afterwards, on refusal too. Each line below quotes a contract.
+use Prim.Native.Nat.{ℕ}
+use mathlib.Core.Path.{_≡_}
+use mathlib.Core.List.{List, _++_, reverse}
+use lib.ListN.{length, drop, replicate}
+use Rattle.settings.specs.Settings.{settingsNumber}
+use Rattle.settings.specs.declared.Settings.{Settings}
+use Rattle.cells.specs.Cell.{mirror, lorryCell}
+use Rattle.slides.specs.Clock.{notBefore, slideOf, openSlide, chunkOf, placeOf, started, movedTo, clockInRange}
+use Rattle.slides.specs.declared.Clock.{Clock}
+use Rattle.forest.specs.Arrays.{
+  freshParents,
+  freshSizes,
+  freshLabels,
+  walkOf,
+  walkAtOf,
+  rootsOf,
+  rootsAtOf,
+  hangOf,
+  hungParents,
+  hungSizes,
+  hungLabels,
+  United,
+  every,
+  within,
+  soundOf,
+  labelsWithin,
+}
+use Rattle.forest.specs.declared.Hang.{Hang}
+use Rattle.crossing.specs.Across.{JoinedAcross}
+use Rattle.linkfile.specs.Format.{readOf, writeNumber, outputOf}
+use Rattle.book.specs.declared.Book.{Book}
+use Rattle.book.specs.declared.Answer.{Answer}
+use Rattle.book.specs.Arrays.{Arrays, unitedAll}
+use Rattle.book.specs.Log.{halfOf, spotOf}
+use Rattle.book.specs.Order.{neverOpened, inOrderOf}
+use Rattle.window.specs.Window.{windowLinks}
+use Rattle.window.specs.Gathered.{Put, linksIn}
+use Rattle.window.specs.Agree.{agreeFrom}
+use Rattle.book.specs.Calls.{Gives, storedIn, openingOf, linkOf, clockOf, joinedOf}
+use Rattle.trail.specs.declared.ChainAnswer.{ChainAnswer}
+use Rattle.trail.specs.Chain.{GivesChain, chainOf}
+
+-- two results that are allowed are equal
+abbrev pub AtMostOne : {A : Type 0} → (A → Type 0) → Type 0
+AtMostOne {A} allowed = (r s : A) → allowed r → allowed s → r ≡ s
+
+pub record Single : Type 0 where
+  -- book
+  pub never-opened : AtMostOne (λ r. r ≡ neverOpened)
+  pub in-order : (clock : Clock) (mounting : ℕ) (counts fp fs bp bs bl : List ℕ) → AtMostOne (λ r. r ≡ inOrderOf clock mounting counts fp fs bp bs bl)
+  pub spot : (clock : Clock) (slide : ℕ) → AtMostOne (λ r. r ≡ spotOf (halfOf (chunkOf clock slide)) (placeOf clock slide))
+  pub stored : (clock : Clock) (counts : List ℕ) (slide : ℕ) → AtMostOne (λ r. r ≡ storedIn clock counts slide)
+  pub clear : (places : List ℕ) (count : ℕ) → AtMostOne (λ r. r ≡ replicate count 0 ++ drop count places)
+  pub opening : (b : Book) (log : List ℕ) (s : Settings) → AtMostOne {A = Answer × List ℕ} (λ r. Gives (openingOf b log s) (r .0) (r .1))
+  pub link : (b : Book) (log : List ℕ) (tick one other : ℕ) →
+      AtMostOne {A = Answer × List ℕ} (λ r. Gives (linkOf b log tick one other) (r .0) (r .1))
+  pub clock : (b : Book) (log : List ℕ) (tick : ℕ) → AtMostOne (λ r. Gives (clockOf b log tick) r log)
+  pub joined : (b : Book) (one other : ℕ) → AtMostOne (λ r. r ≡ joinedOf b one other)
+  -- window
+  pub gather : (b : Book) (log ones others labels : List ℕ) →
+      AtMostOne {A = ℕ × List ℕ × List ℕ × List ℕ} (λ r. Put (windowLinks b log) 0 ones others labels (r .0) (r .1) (r .2) (r .3))
+  pub grow : (ones others labels : List ℕ) (count : ℕ) (before : Arrays) →
+      AtMostOne (λ r. r ≡ unitedAll before (reverse (linksIn ones others labels count)))
+  pub highest-label : (parent label : List ℕ) (top one other : ℕ) → AtMostOne (λ r. r ≡ agreeFrom top parent label one other)
+  -- trail
+  pub chain : (b : Book) (log chain : List ℕ) (one other : ℕ) →
+      AtMostOne {A = ChainAnswer × List ℕ} (λ r. GivesChain (chainOf b log chain one other) (r .0) (r .1))
+  -- linkfile
+  pub read : (file : List ℕ) → AtMostOne (λ r. r ≡ readOf file)
+  pub write : (s : Settings) (records out : List ℕ) →
+      AtMostOne {A = ℕ × List ℕ} (λ r. (r .0 ≡ writeNumber s (length records) (length out)) × (r .1 ≡ outputOf s records out))
+  -- settings
+  pub judge : (s : Settings) → AtMostOne (λ r. r ≡ settingsNumber s)
+  -- cells
+  pub mirrored : (cell : ℕ) → AtMostOne (λ r. r ≡ mirror cell)
+  pub lorry-cell : (mounting cell : ℕ) → AtMostOne (λ r. r ≡ lorryCell mounting cell)
+  -- slides
+  pub start : (s : Settings) → AtMostOne (λ r. r ≡ started s)
+  pub in-range : (clock : Clock) → AtMostOne (λ r. r ≡ clockInRange clock)
+  pub not-before : (clock : Clock) (tick : ℕ) → AtMostOne (λ r. r ≡ notBefore clock tick)
+  pub slide : (clock : Clock) (tick : ℕ) → AtMostOne (λ r. r ≡ slideOf clock tick)
+  pub open-slide : (clock : Clock) → AtMostOne (λ r. r ≡ openSlide clock)
+  pub chunk : (clock : Clock) (slide : ℕ) → AtMostOne (λ r. r ≡ chunkOf clock slide)
+  pub place : (clock : Clock) (slide : ℕ) → AtMostOne (λ r. r ≡ placeOf clock slide)
+  pub moved : (clock : Clock) (tick : ℕ) → AtMostOne (λ r. r ≡ movedTo clock tick)
+  pub advance : (clock : Clock) (tick : ℕ) → AtMostOne (λ r. r ≡ movedTo clock tick)
+  pub advanced : (clock : Clock) (tick : ℕ) → AtMostOne (λ r. r ≡ movedTo clock tick)
+  -- forest
+  pub fresh-parents : AtMostOne (λ r. r ≡ freshParents 1024)
+  pub fresh-sizes : AtMostOne (λ r. r ≡ freshSizes 1024)
+  pub fresh-labels : AtMostOne (λ r. r ≡ freshLabels 1024)
+  pub hang : (parent size : List ℕ) (most one other : ℕ) → AtMostOne (λ r. r ≡ hangOf parent size most one other)
+  pub hang-parent : (parent : List ℕ) (h : Hang) → AtMostOne (λ r. r ≡ hungParents parent h)
+  pub hang-size : (size : List ℕ) (h : Hang) → AtMostOne (λ r. r ≡ hungSizes size h)
+  pub hang-label : (label : List ℕ) (h : Hang) (place : ℕ) → AtMostOne (λ r. r ≡ hungLabels label h place)
+  pub unite : (parent size label : List ℕ) (most place one other : ℕ) →
+      AtMostOne {A = List ℕ × List ℕ × List ℕ}
+      (λ r. United parent size label most one other place (r .0) (r .1) (r .2))
+  pub sound : (parent size : List ℕ) (most : ℕ) → AtMostOne (λ r. r ≡ soundOf parent size most)
+  pub all-within : (numbers : List ℕ) (low end : ℕ) → AtMostOne (λ r. r ≡ every (within low end) 0 numbers)
+  pub labels-within : (label : List ℕ) (bound : ℕ) → AtMostOne (λ r. r ≡ labelsWithin label bound)
+  pub walk : (parent : List ℕ) (most cell : ℕ) → AtMostOne (λ r. r ≡ walkOf parent most cell)
+  pub walk-at : (parent label : List ℕ) (most cut cell : ℕ) → AtMostOne (λ r. r ≡ walkAtOf parent label most cut cell)
+  pub roots : (parent : List ℕ) (most : ℕ) → AtMostOne (λ r. r ≡ rootsOf parent most 1024)
+  pub roots-at : (parent label : List ℕ) (most cut : ℕ) → AtMostOne (λ r. r ≡ rootsAtOf parent label most cut 1024)
+  -- crossing
+  pub joined-across : (backward forward : List ℕ) (one other : ℕ) → AtMostOne (JoinedAcross backward forward one other)

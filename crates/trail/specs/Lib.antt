@@ -1,0 +1,6 @@
+pub mod Best
+pub mod Chain
+pub mod Descent
+pub mod Front
+pub mod Levels
+pub mod Lists

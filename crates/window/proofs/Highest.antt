@@ -1,0 +1,104 @@
+-- The highest label: links from a label on chain two cells exactly when the label is not above it.
+--
+-- With a lower label there are more links, so what is chained stays chained. So the first label from above at which the two
+-- are chained is the largest, and they are chained at every label below it.
+use Prim.Native.Nat.{ℕ, zero, suc, _≤_, _<_}
+use mathlib.Core.Path.{_≡_, refl}
+use mathlib.Core.Bool.{Bool, true, false, cond}
+use mathlib.Core.List.{List, [], _∷_, map}
+use mathlib.Core.Logic.{_↔_, ⊎-elim}
+use native.Mathlib.Omega.{arith}
+use native.Mathlib.Nat.{le-refl, le-antisymm, eq-or-lt-of-le}
+use native.Mathlib.Decide.{decLt}
+use borrow.Author.Tests.{lt-ltb, le-ltb}
+use Rattle.graph.specs.Link.{Linked, here, there, Chained, same, chains}
+use Rattle.graph.specs.Forest.{Labelled, atLeast}
+use Rattle.graph.proofs.Chains.{chained-relink, chained-alone, chains-true, chains-false}
+use Rattle.book.specs.declared.Book.{Book}
+use Rattle.window.specs.Window.{windowLinks, linksFrom, highest}
+use Rattle.window.proofs.WindowLinks.{window-all, window-none}
+
+-- with a lower label there are more links
+linked-lower : (xs : List Labelled) {i j a b : ℕ} → i ≤ j → Linked a b (linksFrom j xs) → Linked a b (linksFrom i xs)
+unfolding atLeast
+linked-lower [] h = λ l. l
+linked-lower (x ∷ xs) {i} {j} {a} {b} h = go (decLt (x .label) i) (decLt (x .label) j) (linked-lower xs h)
+  where
+    kept : (Linked a b (linksFrom j xs) → Linked a b (linksFrom i xs))
+        → Linked a b (x .link ∷ linksFrom j xs) → Linked a b (x .link ∷ linksFrom i xs)
+    kept on (here e) = here e
+    kept on (there l) = there (on l)
+
+    go : Dec (x .label < i) → Dec (x .label < j) → (Linked a b (linksFrom j xs) → Linked a b (linksFrom i xs))
+        → Linked a b (linksFrom j (x ∷ xs)) → Linked a b (linksFrom i (x ∷ xs))
+    go (yes p) (yes q) on = rw (lt-ltb (x .label) i p, lt-ltb (x .label) j q) on
+    go (yes p) (no q) on = absurd (omega arith)
+    go (no p) (yes q) on = rw (le-ltb (x .label) i (omega arith), lt-ltb (x .label) j q) (λ l. there (on l))
+    go (no p) (no q) on = rw (le-ltb (x .label) i (omega arith), le-ltb (x .label) j (omega arith)) (kept on)
+
+module _ (xs : List Labelled) (a b : ℕ) where
+  pub chained-lower : {i j : ℕ} → i ≤ j → Chained (linksFrom j xs) a b → Chained (linksFrom i xs) a b
+  chained-lower h = chained-relink (λ x y. linked-lower xs h)
+
+  chained-highest : (j i : ℕ) → i ≤ j → Chained (linksFrom i xs) a b → i ≤ highest j xs a b
+  unfolding highest
+  chained-highest zero i h x = h
+  chained-highest (suc j) i h x = go (chains (linksFrom (suc j) xs) a b) refl (λ l. chained-highest j i l x)
+    where
+      go : (t : Bool) → chains (linksFrom (suc j) xs) a b ≡ t → (i ≤ j → i ≤ highest j xs a b) → i ≤ cond t (suc j) (highest j xs a b)
+      go true e on = h
+      go false e on = ⊎-elim (λ q. absurd (chains-false _ a b e (rw q at x))) (λ l. on (omega arith)) (eq-or-lt-of-le h)
+
+  highest-chained : (j i : ℕ) → 1 ≤ i → i ≤ highest j xs a b → Chained (linksFrom i xs) a b
+  unfolding highest
+  highest-chained zero i h l = absurd (omega arith)
+  highest-chained (suc j) i h l = go (chains (linksFrom (suc j) xs) a b) refl (highest-chained j i h) l
+    where
+      go : (t : Bool) → chains (linksFrom (suc j) xs) a b ≡ t → (i ≤ highest j xs a b → Chained (linksFrom i xs) a b)
+          → i ≤ cond t (suc j) (highest j xs a b) → Chained (linksFrom i xs) a b
+      go true e on l = chained-lower l (chains-true _ a b e)
+      go false e on l = on l
+
+  -- links from a label on chain the two exactly when the label is not above the highest
+  pub highest-exactly : (j i : ℕ) → 1 ≤ i → i ≤ j → Chained (linksFrom i xs) a b ↔ (i ≤ highest j xs a b)
+  highest-exactly j i low high = (chained-highest j i high, highest-chained j i low)
+
+  pub highest-most : (j : ℕ) → highest j xs a b ≤ j
+  unfolding highest
+  highest-most zero = omega arith
+  highest-most (suc j) = go (chains (linksFrom (suc j) xs) a b) (highest-most j)
+    where
+      go : (t : Bool) → highest j xs a b ≤ j → cond t (suc j) (highest j xs a b) ≤ suc j
+      go true h = omega arith
+      go false h = omega arith
+
+-- a cell and itself are chained with no link at all
+pub highest-same : (xs : List Labelled) (a j : ℕ) → highest j xs a a ≡ j
+highest-same xs a j = le-antisymm (highest-most xs a a j) (chained-highest xs a a j j (le-refl j) (same refl))
+
+-- ---- of the window's links
+
+module _ (b : Book) (log : List ℕ) (one other : ℕ) where
+  abbrev top : ℕ
+  top = suc (b .clock .n)
+
+  abbrev label : ℕ
+  label = highest top (windowLinks b log) one other
+
+  -- at least 1 exactly when the window's links chain the two
+  pub window-joined : (1 ≤ label) ↔ Chained (map (λ x. x .link) (windowLinks b log)) one other
+  window-joined =
+      let both = highest-exactly (windowLinks b log) one other top 1 (le-refl 1) (omega arith) in
+      rw (← window-all b log) (both .1, both .0)
+
+  -- at most n for different cells, since no link has the label n + 1
+  pub window-apart : (one ≡ other → ⊥) → label ≤ b .clock .n
+  window-apart apart = ⊎-elim (λ e. absurd (apart (alone e))) (λ l. omega arith) (eq-or-lt-of-le (highest-most (windowLinks b log) one other top))
+    where
+      no-link : {a c : ℕ} → Linked a c [] → ⊥
+      no-link = elim [ ]
+
+      alone : label ≡ top → one ≡ other
+      alone e =
+          chained-alone (λ c. no-link)
+          (rw (window-none b log) at (highest-chained (windowLinks b log) one other top top (omega arith) (rw e (le-refl top))))

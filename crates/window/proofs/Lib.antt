@@ -1,0 +1,9 @@
+pub mod Agreeing
+pub mod Falling
+pub mod Gathered
+pub mod Growing
+pub mod Highest
+pub mod Kept
+pub mod Putting
+pub mod WindowForest
+pub mod WindowLinks

@@ -1,0 +1,99 @@
+-- The links of the window, for every book and log: both ends of each are cells, labels are 1 to n and never rise along the
+-- list, since a newer slide has a higher label. In a book in order there are at most 4,096.
+use Prim.Native.Nat.{ℕ, zero, suc, _+_, _-_, _*_, _≤_, _<_}
+use mathlib.Core.Path.{_≡_, refl, ap}
+use mathlib.Core.Bool.{Bool, true, false, cond, _&&_}
+use mathlib.Core.List.{List, [], _∷_, _++_, map}
+use native.Mathlib.Omega.{arith}
+use native.Mathlib.Nat.{le-refl}
+use borrow.Author.Tests.{ltb-true}
+use lib.Dec.{ltb}
+use lib.ListN.{length, getD, length-append}
+use Rattle.graph.specs.Link.{Link}
+use Rattle.graph.specs.Forest.{Labelled, Each, empty, also, EndsBelow}
+use Rattle.graph.proofs.Cut.{each-map, all-at-least}
+use Rattle.slides.specs.Clock.{openSlide}
+use Rattle.book.specs.declared.Book.{Book}
+use Rattle.book.specs.Arrays.{cells}
+use Rattle.book.specs.Log.{Readable, pairAt, labelled, linksFrom}
+use Rattle.book.specs.Order.{inOrder}
+use Rattle.book.specs.Calls.{has, logPlaces}
+use Rattle.book.proofs.Checks.{readable}
+use Rattle.window.specs.Window as window
+use Rattle.window.specs.Window.{windowSlides, linksOfAge, slideLinks, linksFromAge, windowLinks}
+use Rattle.window.specs.Falls.{Falls, none}
+use Rattle.window.proofs.Falling.{falls-higher, falls-slide, falls-none}
+use Rattle.window.proofs.Kept.{slide-few}
+
+each-append : {P : Labelled → Type 0} {xs ys : List Labelled} → Each P xs → Each P ys → Each P (xs ++ ys)
+each-append empty qs = qs
+each-append (also p ps) qs = also p (each-append ps qs)
+
+each-labelled : (P : ℕ → Type 0) (label : ℕ) → P label → (ls : List Link) → Each (λ x. P (x .label)) (map (labelled label) ls)
+each-labelled P label p [] = empty
+each-labelled P label p (l ∷ ls) = also p (each-labelled P label p ls)
+
+-- a pair with an entry that is no cell is no link
+kept-cells : (label : ℕ) (log : List ℕ) (at n : ℕ) → EndsBelow cells (map (labelled label) (linksFrom log at n))
+unfolding linksFrom
+kept-cells label log at zero = empty
+kept-cells label log at (suc n) = go (ltb (pairAt log at .one) cells) (ltb (pairAt log at .other) cells) refl refl (kept-cells label log (at + 2) n)
+  where
+    go : (t u : Bool) → ltb (pairAt log at .one) cells ≡ t → ltb (pairAt log at .other) cells ≡ u
+        → EndsBelow cells (map (labelled label) (linksFrom log (at + 2) n))
+        → EndsBelow cells (map (labelled label) (cond (t && u) (pairAt log at ∷ linksFrom log (at + 2) n) (linksFrom log (at + 2) n)))
+    go true true p q on = also (ltb-true _ _ p, ltb-true _ _ q) on
+    go true false p q on = on
+    go false u p q on = on
+
+module _ (b : Book) (log : List ℕ) where
+  -- slide by slide
+  each-slide : {P : Labelled → Type 0} (age more : ℕ)
+      → ((a : ℕ) → a < age + more → Each P (slideLinks b log a)) → Each P (linksFromAge b log age more)
+  unfolding linksFromAge
+  each-slide age zero g = empty
+  each-slide age (suc more) g = each-append (g age (omega arith)) (each-slide (suc age) more (λ a h. g a (omega arith)))
+
+  pub window-ends : EndsBelow cells (windowLinks b log)
+  unfolding windowLinks
+  window-ends = each-slide 0 (windowSlides b) (λ a h. kept-cells _ log _ _)
+
+  pub window-labels : Each (λ x. (1 ≤ x .label) × (x .label ≤ b .clock .n)) (windowLinks b log)
+  unfolding windowLinks
+  window-labels =
+      each-slide 0 (windowSlides b) (λ a h. each-labelled (λ l. (1 ≤ l) × (l ≤ b .clock .n)) _ (omega arith, omega arith) (linksOfAge b log a))
+
+  -- a slide before slide 0 has no links
+  pub window-oldest : Each (λ x. b .clock .n ≤ openSlide (b .clock) + x .label) (windowLinks b log)
+  unfolding windowLinks
+  window-oldest =
+      each-slide 0 (windowSlides b)
+      (λ a h. each-labelled (λ l. b .clock .n ≤ openSlide (b .clock) + l) _ (omega arith) (linksOfAge b log a))
+
+  falls-from : (age more : ℕ) → Falls (b .clock .n - age) (linksFromAge b log age more)
+  unfolding linksFromAge
+  falls-from age zero = none
+  falls-from age (suc more) = falls-slide _ (linksOfAge b log age) (le-refl _) (falls-higher (omega arith) (falls-from (suc age) more))
+
+  pub window-falls : Falls (b .clock .n) (windowLinks b log)
+  unfolding windowLinks
+  window-falls = falls-higher (omega arith) (falls-from 0 (windowSlides b))
+
+  -- all have a label of 1 or more, and none one above n
+  pub window-all : window.linksFrom 1 (windowLinks b log) ≡ map (λ x. x .link) (windowLinks b log)
+  window-all = ap (map (λ x. x .link)) (all-at-least 1 (each-map (λ x p. p .0) window-labels))
+
+  pub window-none : window.linksFrom (suc (b .clock .n)) (windowLinks b log) ≡ []
+  window-none = ap (map (λ x. x .link)) (falls-none window-falls (suc (b .clock .n)) (omega arith))
+
+  few-from : ((spot : ℕ) → getD (b .counts) spot 0 ≤ 256) → (age more : ℕ) → length (linksFromAge b log age more) ≤ more * 256
+  unfolding linksFromAge
+  few-from held age zero = omega arith
+  few-from held age (suc more) = rw length-append (omega (arith, slide-few b log age held, few-from held (suc age) more))
+
+  pub readable-few : Readable (b .clock .n) (b .counts) log → length (windowLinks b log) ≤ 4096
+  unfolding windowLinks
+  readable-few r = omega (arith, few-from (r .few) 0 (windowSlides b), r .n-most)
+
+  pub window-few : inOrder b ≡ true → has logPlaces log ≡ true → length (windowLinks b log) ≤ 4096
+  window-few e room = readable-few (readable b log e room)

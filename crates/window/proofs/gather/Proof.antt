@@ -1,0 +1,87 @@
+-- `window::gather` meets its contract: the links of the newest `age` slides are put (proofs/Putting.antt), up to as many slides as
+-- the window has. Of these no more than 16 exist, each with at most 256 links.
+use Prim.Native.Nat.{_+_, _-_, min}
+use mathlib.Core.Path.{_≡_, _∙_, ap}
+use borrow.Author.Needs.{needs}
+use native.Mathlib.Omega.{arith}
+use Rattle.slides.specs.Clock.{openSlide}
+use Rattle.window.specs.Window.{windowSlides}
+use Rattle.window.proofs.Putting.{Slides, slides-begin, slides-more, slides-end}
+use Rattle.window.proofs.gather.Statement.{statement}
+use Rattle.window.proofs.gather.Tie as tie
+
+abbrev Inv-loop : tie.InvT-loop
+Inv-loop log ones₀ others₀ labels₀ book k existing end₀ age₀ ones others labels end age =
+    Slides book log ones₀ others₀ labels₀ age end ones others labels
+
+abbrev μ-loop : tie.MeasureT-loop
+μ-loop log ones₀ others₀ labels₀ book k existing end₀ age₀ ones others labels end age = existing - age
+
+-- what is read before the loop: the open slide, and how many slides the window has
+module _ (c : tie.After-window-slides Inv-loop μ-loop) where
+  abbrev start : tie.Start Inv-loop μ-loop
+  start = c .before .before .before .before
+
+  opened : c .before .open-slide .result ≡ openSlide (start .args .t1 .clock)
+  opened = c .before .open-slide .ensures
+
+  existing : c .window-slides .result ≡ windowSlides (start .args .t1)
+  existing = c .window-slides .ensures ∙ ap (λ k. min (start .args .t1 .clock .n) (k + 1)) opened
+
+open-slide-requires : tie.Need-open-slide-requires Inv-loop μ-loop
+open-slide-requires c κs = search needs
+
+window-slides-requires : tie.Need-window-slides-requires Inv-loop μ-loop
+window-slides-requires c κs = search needs
+
+loop-holds : tie.Need-loop-holds Inv-loop μ-loop
+loop-holds c = slides-begin
+
+cast-put-slide : tie.Need-cast-put-slide Inv-loop μ-loop
+cast-put-slide c = omega arith
+
+sub-put-slide : tie.Need-sub-put-slide Inv-loop μ-loop
+sub-put-slide c = omega arith
+
+sub-put-slide-2 : tie.Need-sub-put-slide-2 Inv-loop μ-loop
+sub-put-slide-2 c = omega arith
+
+put-slide-requires : tie.Need-put-slide-requires Inv-loop μ-loop
+put-slide-requires c κs =
+    let head = c .before .before .before .before .before .before in
+    let before = head .before .before in
+    (start before .pre, omega (arith, existing before, start before .pre .n-most, head .loop-test .taken, head .before .loop .inv .few))
+
+add-age : tie.Need-add-age Inv-loop μ-loop
+add-age c = omega arith
+
+loop-less : tie.Need-loop-less Inv-loop μ-loop
+loop-less c = omega arith
+
+loop-again : tie.Need-loop-again Inv-loop μ-loop
+loop-again c =
+    let head = c .before .before .before .before .before .before .before in
+    let before = head .before .before in
+    slides-more (head .before .loop .inv) (rw (existing before) at (head .loop-test .taken)) (start before .pre .few)
+    (rw (opened before) at (c .put-slide .ensures))
+
+returns : tie.Need-returns Inv-loop μ-loop
+returns c = slides-end (c .before .loop .inv) (rw (existing (c .before .before)) at (c .loop-test .left))
+
+pub gather-spec : {M : Type 1} → statement M
+gather-spec =
+    tie.close
+    (tie.spec
+    Inv-loop
+    μ-loop
+    open-slide-requires
+    window-slides-requires
+    loop-holds
+    cast-put-slide
+    sub-put-slide
+    sub-put-slide-2
+    put-slide-requires
+    add-age
+    loop-less
+    loop-again
+    returns)

@@ -1,0 +1,19 @@
+-- What a labelled forest in arrays tells of two cells: the highest cut at which their walks end at one root.
+use Prim.Native.Nat.{ℕ, zero, suc}
+use mathlib.Core.Bool.{Bool, cond}
+use mathlib.Core.List.{List}
+use lib.Dec.{eqb}
+use Rattle.graph.specs.Forest.{climb}
+use Rattle.forest.specs.Arrays.{parentAtIn}
+use Rattle.book.specs.Arrays.{most}
+
+-- the walks of the two at the cut end at one root
+abbrev pub agreeAt : List ℕ → List ℕ → ℕ → ℕ → ℕ → Bool
+agreeAt ps ls cut one other = eqb (climb (parentAtIn ps ls cut) most one .root) (climb (parentAtIn ps ls cut) most other .root)
+
+-- the largest such cut, from j down; 0 where there is none
+unfoldable pub agreeFrom : ℕ → List ℕ → List ℕ → ℕ → ℕ → ℕ
+agreeFrom zero ps ls one other = 0
+agreeFrom (suc j) ps ls one other =
+    let lower : ℕ = agreeFrom j ps ls one other in
+    cond (agreeAt ps ls (suc j) one other) (suc j) lower

@@ -1,0 +1,4 @@
+pub mod Agree
+pub mod Falls
+pub mod Gathered
+pub mod Window

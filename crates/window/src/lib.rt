@@ -1,0 +1,88 @@
+// The links of the current window of a book and its log, newest slide first, and what their labelled forest tells: the
+// highest label from which on links chain two cells.
+mod links; // links.rt: the links of a slide into arrays
+
+use book::Book;
+ghost use mathlib.Core.Path.{_≡_};
+ghost use mathlib.Core.List.{reverse};
+ghost use Prim.Native.Nat.{_≤_};
+ghost use lib.ListN.{length};
+ghost use Rattle.book.specs.Log.{Readable};
+ghost use Rattle.book.specs.Arrays.{arraysOf, unitedAll};
+ghost use Rattle.window.specs.Window.{windowLinks};
+ghost use Rattle.window.specs.Gathered.{Put, linksIn};
+ghost use Rattle.window.specs.Agree.{agreeFrom};
+
+// The links of the window into three arrays, newest slide first; the open slide's have the label n. Returns how many there
+// are: at most 16 slides of 256.
+pub fn gather(
+    book: Book,
+    log: &[u16],
+    ones: &mut [u16; 4096],
+    others: &mut [u16; 4096],
+    labels: &mut [u8; 4096],
+) -> usize
+    requires { ⌜ Readable (book .clock .n) (book .counts) (now log) ⌝ }
+    ensures { λ r.
+        ⌜ Put (windowLinks book (now (log .entry))) 0 (now (ones .entry)) (now (others .entry)) (now (labels .entry))
+        r (now (ones .exit)) (now (others .exit)) (now (labels .exit)) ⌝ }
+{
+    let k = slides::open_slide(book.clock);
+    let existing = links::window_slides(book.clock.n, k);
+    let mut end = 0;
+    let mut age: u8 = 0;
+    while age < existing {
+        end = links::put_slide(
+            book.clock,
+            &book.counts,
+            log,
+            k - age as u64,
+            book.clock.n - age,
+            end,
+            ones,
+            others,
+            labels,
+        );
+        age += 1;
+    }
+    end
+}
+
+// The links of the first so many places united into the forest, the first of them first.
+pub fn grow<'a>(
+    ones: &'a [u16],
+    others: &'a [u16],
+    labels: &'a [u8],
+    count: usize,
+    parent: &mut [u16; 1024],
+    size: &mut [u16; 1024],
+    label: &mut [u8; 1024],
+)
+    requires { ⌜ (count ≤ length (now ones)) × (count ≤ length (now others)) × (count ≤ length (now labels)) ⌝ }
+    ensures { λ _.
+        ⌜ arraysOf (now (parent .exit)) (now (size .exit)) (now (label .exit))
+        ≡ unitedAll (arraysOf (now (parent .entry)) (now (size .entry)) (now (label .entry)))
+        (reverse (linksIn (now (ones .entry)) (now (others .entry)) (now (labels .entry)) count)) ⌝ }
+{
+    let mut i = 0;
+    while i < count {
+        forest::links::unite(parent, size, label, 10, labels[i], ones[i], others[i]);
+        i += 1;
+    }
+}
+
+// The highest cut, from top down to 1, at which the walks of the two end at one root; 0 where there is none.
+pub fn highest_label<'a>(parent: &'a [u16], label: &'a [u8], top: u8, one: u16, other: u16) -> u8
+    ensures { λ r. ⌜ r ≡ agreeFrom top (now (parent .entry)) (now (label .entry)) one other ⌝ }
+{
+    let mut cut = top;
+    while 0 < cut {
+        let a = forest::walks::walk_at(parent, label, 10, cut, one);
+        let b = forest::walks::walk_at(parent, label, 10, cut, other);
+        if a.root == b.root {
+            return cut;
+        }
+        cut -= 1;
+    }
+    0
+}

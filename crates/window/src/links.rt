@@ -1,0 +1,100 @@
+// The links of a slide, from the log into three arrays: link i joins ones[i] and others[i] and has the label labels[i].
+use slides::Clock;
+ghost use mathlib.Core.Path.{_≡_};
+ghost use mathlib.Core.List.{map, []};
+ghost use Prim.Native.Nat.{_+_, _*_, _≤_, _<_, min};
+ghost use lib.ListN.{length};
+ghost use Rattle.slides.specs.Clock.{chunkOf, placeOf};
+ghost use Rattle.book.specs.Log.{Readable, halfOf, keep, labelled, linksFrom, placeLinks};
+ghost use Rattle.window.specs.Gathered.{Put};
+
+// How many slides the window has while slide k is open: in a young book fewer than n exist.
+pub fn window_slides(n: u8, k: u64) -> u8
+    ensures { λ r. ⌜ r ≡ min n (k + 1) ⌝ }
+{
+    if k < n as u64 { k as u8 + 1 } else { n }
+}
+
+// Puts the links of a slide.
+pub fn put_slide<'a>(
+    clock: Clock,
+    counts: &'a [u16; 32],
+    log: &'a [u16],
+    slide: u64,
+    label: u8,
+    at: usize,
+    ones: &mut [u16; 4096],
+    others: &mut [u16; 4096],
+    labels: &mut [u8; 4096],
+) -> usize
+    requires { ⌜ Readable (clock .n) (now counts) (now log) ⌝ }
+    requires { ⌜ at + 256 ≤ 4096 ⌝ }
+    ensures { λ r.
+        ⌜ Put (map (labelled label) (placeLinks (now (counts .entry)) (now (log .entry)) (halfOf (chunkOf clock slide)) (placeOf clock slide)))
+        at (now (ones .entry)) (now (others .entry)) (now (labels .entry)) r (now (ones .exit)) (now (others .exit)) (now (labels .exit)) ⌝ }
+{
+    let spot = book::spots::spot(clock, slide);
+    put_links(
+        log,
+        spot * 512,
+        counts[spot] as usize,
+        label,
+        at,
+        ones,
+        others,
+        labels,
+    )
+}
+
+// Puts so many links from a log place on, in order of arrival.
+fn put_links(
+    log: &[u16],
+    start: usize,
+    count: usize,
+    label: u8,
+    at: usize,
+    ones: &mut [u16; 4096],
+    others: &mut [u16; 4096],
+    labels: &mut [u8; 4096],
+) -> usize
+    requires { ⌜ (start + 2 * count ≤ length (now log)) × (at + count ≤ 4096) ⌝ }
+    ensures { λ r.
+        ⌜ Put (map (labelled label) (linksFrom (now (log .entry)) start count))
+        at (now (ones .entry)) (now (others .entry)) (now (labels .entry)) r (now (ones .exit)) (now (others .exit)) (now (labels .exit)) ⌝ }
+{
+    let mut end = at;
+    let mut i = 0;
+    while i < count {
+        let place = start + 2 * i;
+        end = put_pair(log[place], log[place + 1], label, end, ones, others, labels);
+        i += 1;
+    }
+    end
+}
+
+// Puts one pair of the log. With an entry that is no cell it is no link.
+fn put_pair(
+    one: u16,
+    other: u16,
+    label: u8,
+    at: usize,
+    ones: &mut [u16; 4096],
+    others: &mut [u16; 4096],
+    labels: &mut [u8; 4096],
+) -> usize
+    requires { ⌜ at < 4096 ⌝ }
+    ensures { λ r.
+        ⌜ Put (map (labelled label) (keep (record { one = one; other = other }) []))
+        at (now (ones .entry)) (now (others .entry)) (now (labels .entry)) r (now (ones .exit)) (now (others .exit)) (now (labels .exit)) ⌝ }
+{
+    if 1024 <= one {
+        return at;
+    }
+    if 1024 <= other {
+        return at;
+    }
+    ones[at] = one;
+    others[at] = other;
+    labels[at] = label;
+    at + 1
+}
