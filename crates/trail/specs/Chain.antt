@@ -4,11 +4,10 @@
 -- k + j - n and the hold is j - 1. A cell and itself are chained with no link at all, so j is then n + 1: L is k + 1 and the hold n.
 use Prim.Native.Nat.{ℕ, zero, suc, _+_, _-_, _≤_, _<_}
 use mathlib.Core.Path.{_≡_}
-use mathlib.Core.Bool.{Bool, true, _&&_}
+use mathlib.Core.Bool.{true, _&&_}
 use mathlib.Core.List.{List, [], _∷_, _++_}
 use lib.Dec.{leb, ltb}
 use lib.ListN.{length, drop}
-use Rattle.graph.specs.Forest.{Labelled}
 use Rattle.graph.specs.Trail.{trailOf}
 use Rattle.slides.specs.Clock.{openSlide}
 use Rattle.book.specs.declared.Book.{Book}
