@@ -5,6 +5,7 @@ pub mod ChunkEnds
 pub mod Closings
 pub mod Counts
 pub mod Fakes
+pub mod FilesRefused
 pub mod Forests
 pub mod Highest
 pub mod InOrder

@@ -17,6 +17,9 @@ use Rattle.book.specs.declared.Book.{Book}
 use Rattle.book.specs.declared.JoinedAnswer.{JoinedAnswer}
 use Rattle.book.specs.Arrays.{most}
 use Rattle.book.specs.Calls.{firstOf, unless, has, logPlaces, areCells}
+use Rattle.linkfile.specs.Format.{readNumber, readOf, writeNumber, outputOf}
+use Rattle.listing.specs.Play.{Play, playFrom, recordGives}
+use Rattle.listing.specs.Listing.{listingOf}
 use Rattle.trail.specs.declared.ChainAnswer.{ChainAnswer}
 use Rattle.trail.specs.Chain.{ChainOutcome, chainPlaces}
 use Rattle.promises.specs.History.{
@@ -66,6 +69,23 @@ pub record Refused (p : Panel) : Type 0 where
       let o : ChainOutcome = givesChain p s chain one other in
       (o .answer .number ≡ 0 → ⊥) →
       o ≡ record { answer = record { newest = 0; cells = 0; hold = 0; number = o .answer .number }; chain = chain }
+
+-- where playing from record i on stops at a refused record: so many records before it were taken, the book and its log are as
+-- they left them, and the number is the link call's
+pub record Stopped (file : List ℕ) (i : ℕ) (b : Book) (log : List ℕ) (p : Play) : Type 0 where
+  pub before : ℕ
+  pub place : p .place ≡ i + before
+  pub kept : playFrom file i before b log ≡ record { book = p .book; log = p .log; number = 0; place = 0 }
+  pub number : recordGives file (p .place) (p .book) (p .log) .number ≡ p .number
+
+-- 1, of files: with a refusal the other result fields are 0 and lent buffers are unchanged; a record that is refused changes nothing
+pub record FilesRefused : Type 0 where
+  pub read : (file : List ℕ) → (readNumber file ≡ 0 → ⊥) →
+      readOf file ≡ record { settings = record { t0 = 0; b = 0; n = 0; mounting = 0 }; m = 0; number = readNumber file }
+  pub write : (s : Settings) (records out : List ℕ) → (writeNumber s (length records) (length out) ≡ 0 → ⊥) → outputOf s records out ≡ out
+  pub play : (file : List ℕ) (m : ℕ) (b : Book) (log : List ℕ) → (playFrom file 0 m b log .number ≡ 0 → ⊥) →
+      Stopped file 0 b log (playFrom file 0 m b log)
+  pub list : (file out : List ℕ) → (listingOf file out .listed .number ≡ 0 → ⊥) → listingOf file out .output ≡ out
 
 -- the two forests of the history, folded as document 01 says, and the cut
 abbrev pub forwardForest : History → Forest

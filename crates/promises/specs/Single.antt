@@ -29,7 +29,11 @@ use Rattle.forest.specs.Arrays.{
 }
 use Rattle.forest.specs.declared.Hang.{Hang}
 use Rattle.crossing.specs.Across.{JoinedAcross}
-use Rattle.linkfile.specs.Format.{readOf, writeNumber, outputOf}
+use Rattle.linkfile.specs.Format.{readOf, writeNumber, outputOf, wordAt}
+use Rattle.listing.specs.declared.Played.{Played}
+use Rattle.listing.specs.declared.Listed.{Listed}
+use Rattle.listing.specs.Play.{Plays, playFrom}
+use Rattle.listing.specs.Listing.{Lists, listingOf}
 use Rattle.book.specs.declared.Book.{Book}
 use Rattle.book.specs.declared.Answer.{Answer}
 use Rattle.book.specs.Arrays.{Arrays, unitedAll}
@@ -71,6 +75,11 @@ pub record Single : Type 0 where
   pub read : (file : List ℕ) → AtMostOne (λ r. r ≡ readOf file)
   pub write : (s : Settings) (records out : List ℕ) →
       AtMostOne {A = ℕ × List ℕ} (λ r. (r .0 ≡ writeNumber s (length records) (length out)) × (r .1 ≡ outputOf s records out))
+  pub word : (bytes : List ℕ) (place : ℕ) → AtMostOne (λ r. r ≡ wordAt bytes place)
+  -- listing
+  pub play : (file : List ℕ) (m : ℕ) (b : Book) (log : List ℕ) →
+      AtMostOne {A = Played × List ℕ} (λ r. Plays (playFrom file 0 m b log) (r .0) (r .1))
+  pub list : (file out : List ℕ) → AtMostOne {A = Listed × List ℕ} (λ r. Lists (listingOf file out) (r .0) (r .1))
   -- settings
   pub judge : (s : Settings) → AtMostOne (λ r. r ≡ settingsNumber s)
   -- cells

@@ -1,0 +1,12 @@
+pub mod Cells
+pub mod Decimal
+pub mod Gathering
+pub mod Groups
+pub mod Highest
+pub mod Labels
+pub mod Playing
+pub mod Printed
+pub mod Stages
+pub mod Tally
+pub mod Told
+pub mod Writing

@@ -1,0 +1,107 @@
+-- The text of a file, stage by stage: what reading, opening and playing give decides it. A book that was opened and played into
+-- can be listed (proofs/Playing.antt).
+use Prim.Native.Nat.{ℕ, zero, suc, _*_, _≤_}
+use mathlib.Core.Path.{_≡_, refl, sym, ap, _∙_}
+use mathlib.Core.Bool.{Bool, true, false}
+use mathlib.Core.List.{List}
+use native.Mathlib.Omega.{arith}
+use lib.Dec.{leb}
+use lib.ListN.{length, drop, replicate, length-append}
+use Rattle.linkfile.specs.Format.{ending, readNumber, readAnswer, readOf}
+use Rattle.linkfile.specs.declared.Reading.{Reading}
+use Rattle.linkfile.proofs.Laws as linkfile
+use Rattle.book.specs.declared.Book.{Book}
+use Rattle.book.specs.declared.Answer.{Answer}
+use Rattle.book.specs.Order.{neverOpened}
+use Rattle.book.specs.Calls.{Outcome, Gives, openingOf, logPlaces}
+use Rattle.listing.specs.declared.Listed.{Listed}
+use Rattle.listing.specs.declared.Played.{Played}
+use Rattle.listing.specs.Text.{refusedFile, refusedRecord}
+use Rattle.listing.specs.Play.{Play, Plays, playFrom}
+use Rattle.listing.specs.Listing.{Lists, bookText, playedText, openedText, readText, listingText, outputPlaces, listedIf, listingOf}
+use Rattle.listing.proofs.Playing.{Ready, opening-ready, played-ready}
+
+-- a file that is taken has its records
+pub read-size : (file : List ℕ) {r : Reading} → r ≡ readOf file → r .number ≡ 0 → 8 * r .m ≤ length file
+unfolding readOf
+read-size file {r} e fine = rw e (go (readNumber file) refl (sym (ap (λ a. a .number) e) ∙ fine))
+  where
+    go : (k : ℕ) → readNumber file ≡ k → readAnswer k (ending file) .number ≡ 0 → 8 * readAnswer k (ending file) .m ≤ length file
+    go zero q n = omega (arith, linkfile.readable file q .long)
+    go (suc k) q n = absurd (omega arith)
+
+-- the length that is given is within the output
+pub listed-within : (file out : List ℕ) {answer : Listed} {out′ : List ℕ} → Lists (listingOf file out) answer out′ → answer .length ≤ length out′
+unfolding listingOf listedIf
+listed-within file out l = rw (l .answered, l .written) (within (leb outputPlaces (length out)))
+  where
+    within : (t : Bool) → listedIf t (listingText file) out .listed .length ≤ length (listedIf t (listingText file) out .output)
+    within true = omega (arith, length-append (listingText file) (drop (length (listingText file)) out))
+    within false = omega arith
+
+-- the text of a number that is not 0
+refused-read : (k : ℕ) (file : List ℕ) (r : Reading) → ¬ (k ≡ 0) → readText k file r ≡ refusedFile k
+unfolding readText
+refused-read zero file r n = absurd (n refl)
+refused-read (suc k) file r n = refl
+
+refused-opened : (k : ℕ) (file : List ℕ) (m : ℕ) (o : Outcome) → ¬ (k ≡ 0) → openedText k file m o ≡ refusedFile k
+unfolding openedText
+refused-opened zero file m o n = absurd (n refl)
+refused-opened (suc k) file m o n = refl
+
+refused-played : (k : ℕ) (p : Play) → ¬ (k ≡ 0) → playedText k p ≡ refusedRecord k (p .place)
+unfolding playedText
+refused-played zero p n = absurd (n refl)
+refused-played (suc k) p n = refl
+
+module _ (file : List ℕ) {r : Reading} (read : r ≡ readOf file) where
+  pub reading-refused : ¬ (r .number ≡ 0) → listingText file ≡ refusedFile (r .number)
+  unfolding listingText
+  reading-refused n = rw (← read) (refused-read (r .number) file r n)
+
+  module _ (fine : r .number ≡ 0) {start : Book} (never : start ≡ neverOpened) {a : Answer} {log : List ℕ}
+      (opens : Gives (openingOf start (replicate logPlaces 0) (r .settings)) a log) where
+    o : Outcome
+    o = openingOf neverOpened (replicate logPlaces 0) (r .settings)
+
+    same-number : o .number ≡ a .number
+    unfolding o
+    same-number = ap (λ b. openingOf b (replicate logPlaces 0) (r .settings) .number) (sym never) ∙ sym (ap (λ x. x .number) (opens .answered))
+
+    is-opened : listingText file ≡ openedText (o .number) file (r .m) o
+    unfolding listingText readText o
+    is-opened = rw (← read, fine)
+
+    pub opening-refused : ¬ (a .number ≡ 0) → listingText file ≡ refusedFile (a .number)
+    opening-refused n = is-opened ∙ ap (λ k. openedText k file (r .m) o) same-number ∙ refused-opened (a .number) file (r .m) o n
+
+    module _ (opened : a .number ≡ 0) {p : Played} {log′ : List ℕ} (plays : Plays (playFrom file 0 (r .m) (a .book) log) p log′) where
+      played : Play
+      played = playFrom file 0 (r .m) (o .book) (o .log)
+
+      -- the outcome's book and log are those that are played into
+      same-play : playFrom file 0 (r .m) (a .book) log ≡ played
+      unfolding o played
+      same-play = rw (opens .answered, opens .logged, never)
+
+      number-of : played .number ≡ p .number
+      number-of = sym (ap (λ x. x .number) same-play) ∙ sym (ap (λ x. x .number) (plays .played))
+
+      is-played : listingText file ≡ playedText (played .number) played
+      unfolding openedText o played
+      is-played = is-opened ∙ rw (same-number ∙ opened)
+
+      pub record-refused : ¬ (p .number ≡ 0) → listingText file ≡ refusedRecord (p .number) (p .place)
+      record-refused n =
+          is-played ∙ ap (λ k. playedText k played) number-of ∙ refused-played (p .number) played n
+          ∙ ap (refusedRecord (p .number)) (sym (ap (λ x. x .place) same-play) ∙ sym (ap (λ x. x .place) (plays .played)))
+
+      pub book-listed : p .number ≡ 0 → listingText file ≡ bookText (p .book) log′
+      unfolding playedText
+      book-listed n = is-played ∙ rw (number-of ∙ n, ← same-play, plays .played, plays .logged)
+
+      pub book-ready : p .number ≡ 0 → Ready (p .book) log′
+      book-ready n =
+          let start : Ready (a .book) log = rw (opens .answered, opens .logged) (opening-ready start _ (r .settings) (sym (ap (λ x. x .number) (opens .answered)) ∙ opened)) in
+          rw (plays .played, plays .logged) (played-ready file 0 (r .m) (a .book) log start (sym (ap (λ x. x .number) (plays .played)) ∙ n))

@@ -1,0 +1,79 @@
+-- What kerblist prints for a file (document 01, "The listing"), as bytes.
+use Prim.Native.Nat.{ℕ, zero, suc}
+use mathlib.Core.Path.{_≡_}
+use mathlib.Core.Bool.{Bool, true, false}
+use mathlib.Core.List.{List, [], _∷_, _++_}
+use lib.Dec.{leb}
+use lib.ListN.{length, drop, replicate}
+use Rattle.slides.specs.Clock.{openSlide}
+use Rattle.slides.specs.declared.Clock.{Clock}
+use Rattle.forest.specs.Arrays.{countFrom}
+use Rattle.linkfile.specs.Format.{readOf}
+use Rattle.linkfile.specs.declared.Reading.{Reading}
+use Rattle.book.specs.declared.Book.{Book}
+use Rattle.book.specs.Arrays.{cells}
+use Rattle.book.specs.Order.{neverOpened}
+use Rattle.book.specs.Calls.{Outcome, openingOf, logPlaces}
+use Rattle.window.specs.Window.{windowLinks}
+use Rattle.listing.specs.declared.Listed.{Listed}
+use Rattle.listing.specs.Text.{line, windowWord, linksWord, refusedFile, refusedRecord}
+use Rattle.listing.specs.Groups.{groupLines}
+use Rattle.listing.specs.Play.{Play, playFrom}
+
+-- n, B, mounting, open slide
+abbrev pub windowLine : Clock → ℕ → List ℕ
+windowLine clock mounting = line windowWord (clock .n ∷ clock .b ∷ mounting ∷ openSlide clock ∷ [])
+
+-- that line; the groups; links stored in the window, repeats counted
+unfoldable pub bookText : Book → List ℕ → List ℕ
+bookText b log =
+    windowLine (b .clock) (b .mounting)
+    ++ groupLines (b .clock .n) (windowLinks b log) (countFrom 0 cells)
+    ++ line linksWord (length (windowLinks b log) ∷ [])
+
+-- by the number of the first record that is refused
+unfoldable pub playedText : ℕ → Play → List ℕ
+playedText zero p = bookText (p .book) (p .log)
+playedText (suc k) p = refusedRecord (suc k) (p .place)
+
+-- by the opening's number
+unfoldable pub openedText : ℕ → List ℕ → ℕ → Outcome → List ℕ
+openedText zero file m o =
+    let p : Play = playFrom file 0 m (o .book) (o .log) in
+    playedText (p .number) p
+openedText (suc k) file m o = refusedFile (suc k)
+
+-- by the reader's number: the file is played into a book of its own, with a log of its own
+unfoldable pub readText : ℕ → List ℕ → Reading → List ℕ
+readText zero file r =
+    let o : Outcome = openingOf neverOpened (replicate logPlaces 0) (r .settings) in
+    openedText (o .number) file (r .m) o
+readText (suc k) file r = refusedFile (suc k)
+
+-- the whole output for a file
+unfoldable pub listingText : List ℕ → List ℕ
+listingText file =
+    let r : Reading = readOf file in
+    readText (r .number) file r
+
+-- the output's bytes, at least
+abbrev pub outputPlaces : ℕ
+outputPlaces = 20480
+
+-- what is given, and what the output holds afterwards
+pub record Listing : Type 0 where
+  pub listed : Listed
+  pub output : List ℕ
+
+-- the text at the front of the output, and no byte beyond; an output that is too short is unchanged
+unfoldable pub listedIf : Bool → List ℕ → List ℕ → Listing
+listedIf true text out = record { listed = record { length = length text; number = 0 }; output = text ++ drop (length text) out }
+listedIf false text out = record { listed = record { length = 0; number = 6 }; output = out }
+
+unfoldable pub listingOf : List ℕ → List ℕ → Listing
+listingOf file out = listedIf (leb outputPlaces (length out)) (listingText file) out
+
+-- an answer and an output are those of a listing
+pub record Lists (l : Listing) (answer : Listed) (output : List ℕ) : Type 0 where
+  pub answered : answer ≡ l .listed
+  pub written : output ≡ l .output

@@ -1,0 +1,65 @@
+-- Demand 1 of files: with a refusal the reader's other fields are 0 and the lent buffers of the writer and of the listing are
+-- unchanged (the first two by the crate linkfile); and where playing stops at a record, the book and its log are those that
+-- the records before it have left, since a refused link changes nothing.
+use Prim.Native.Nat.{ℕ, zero, suc, _+_}
+use mathlib.Core.Path.{_≡_, refl, sym}
+use mathlib.Core.Bool.{Bool, true, false}
+use mathlib.Core.List.{List}
+use native.Mathlib.Omega.{arith}
+use Rattle.linkfile.proofs.Files.{refused-read, refused-write}
+use Rattle.book.specs.declared.Book.{Book}
+use Rattle.book.specs.Calls.{Outcome}
+use Rattle.listing.specs.Play.{Play, tickAt, oneAt, otherAt, recordGives, playBy, playFrom}
+use Rattle.listing.specs.Listing.{listedIf, listingOf}
+use Rattle.promises.specs.History.{link}
+use Rattle.promises.specs.Panel.{gives}
+use Rattle.promises.specs.Demands.{Stopped, FilesRefused}
+use Rattle.promises.proofs.Refused.{refused}
+
+-- an output that is too short is unchanged
+short-kept : (t : Bool) (text out : List ℕ) → (listedIf t text out .listed .number ≡ 0 → ⊥) → listedIf t text out .output ≡ out
+unfolding listedIf
+short-kept true text out failed = absurd (failed refl)
+short-kept false text out failed = refl
+
+-- a record that is refused changes nothing
+record-kept : (file : List ℕ) (i : ℕ) (b : Book) (log : List ℕ) → (recordGives file i b log .number ≡ 0 → ⊥) →
+    (recordGives file i b log .book ≡ b) × (recordGives file i b log .log ≡ log)
+unfolding gives
+record-kept file i b log = refused .kept (record { book = b; log = log }) (link (tickAt file i) (oneAt file i) (otherAt file i))
+
+stopped : (file : List ℕ) (m i : ℕ) (b : Book) (log : List ℕ) → (playFrom file i m b log .number ≡ 0 → ⊥) →
+    Stopped file i b log (playFrom file i m b log)
+unfolding playFrom playBy
+stopped file zero i b log failed = absurd (failed refl)
+stopped file (suc m) i b log failed = go (o .number) refl failed (stopped file m (suc i) (o .book) (o .log))
+  where
+    o : Outcome
+    o = recordGives file i b log
+
+    rest : Play
+    rest = playFrom file (suc i) m (o .book) (o .log)
+
+    go : (k : ℕ) → o .number ≡ k → (playBy k i o rest .number ≡ 0 → ⊥) → ((rest .number ≡ 0 → ⊥) → Stopped file (suc i) (o .book) (o .log) rest) →
+        Stopped file i b log (playBy k i o rest)
+    go zero e failed later =
+        let w : Stopped file (suc i) (o .book) (o .log) rest = later failed in
+        record { before = suc (w .before); place = omega (arith, w .place); kept = rw e (w .kept); number = w .number }
+    go (suc k) e failed later =
+        let w = record-kept file i b log (λ z. omega arith) in
+        record {
+          before = 0;
+          place = omega arith;
+          kept = rw (w .0, w .1);
+          number = rw (w .0, w .1) e;
+        }
+
+pub files-refused : FilesRefused
+unfolding listingOf
+files-refused =
+    record {
+      read = refused-read;
+      write = refused-write;
+      play = λ file m b log failed. stopped file m 0 b log failed;
+      list = λ file out failed. short-kept _ _ out failed;
+    }
