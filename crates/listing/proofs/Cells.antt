@@ -21,7 +21,10 @@ count-more i (suc n) =
 pub in-count : (i n : ℕ) {c : ℕ} → i ≤ c → c < i + n → List·Memᴰ c (countFrom i n)
 unfolding countFrom
 in-count i zero h k = absurd (omega arith)
-in-count i (suc n) {c} h k = elim (ℕ-discrete c i) [ yes e ↦ List·Memᴰ·head e | no d ↦ List·Memᴰ·tail (in-count (suc i) n (omega arith) (omega arith)) ]
+in-count i (suc n) {c} h k = elim (ℕ-discrete c i) [
+  | yes e ↦ List·Memᴰ·head e
+  | no d ↦ List·Memᴰ·tail (in-count (suc i) n (omega arith) (omega arith))
+]
 
 pub count-in : (i n : ℕ) {c : ℕ} → List·Memᴰ c (countFrom i n) → (i ≤ c) × (c < i + n)
 unfolding countFrom
@@ -31,7 +34,8 @@ count-in i (suc n) (List·Memᴰ·tail m) = let on = count-in (suc i) n m in (om
 
 -- ---- those that pass
 
-pub those-agree : (t u : ℕ → Bool) (i n : ℕ) → ((c : ℕ) → i ≤ c → c < i + n → t c ≡ u c) → those t (countFrom i n) ≡ those u (countFrom i n)
+pub those-agree : (t u : ℕ → Bool) (i n : ℕ) → ((c : ℕ) → i ≤ c → c < i + n → t c ≡ u c)
+    → those t (countFrom i n) ≡ those u (countFrom i n)
 unfolding those countFrom
 those-agree t u i zero e = refl
 those-agree t u i (suc n) e = rw (those-agree t u (suc i) n (λ c h k. e c (omega arith) (omega arith)), e i (omega arith) (omega arith))

@@ -1,15 +1,13 @@
 -- Numbers in decimal: a number below 10 is its one digit; any other is what stands before its last digit, in decimal, and
 -- that digit. So a number below 10 ^ d has at most d digits, and a line's length is bounded by its numbers.
-use Prim.Native.Nat.{ℕ, zero, suc, _+_, _*_, _/_, _%_, _^_, _≤_, _<_}
+use Prim.Native.Nat.{ℕ, zero, suc, _+_, _*_, _/_, _^_, _≤_, _<_}
 use mathlib.Core.Path.{_≡_, refl, ap, _∙_}
-use mathlib.Core.Bool.{Bool, true, false, cond}
 use mathlib.Core.List.{List, [], _∷_, _++_, append-assoc, append-nil}
 use native.Mathlib.Nat.{pow-succ'}
 use native.Mathlib.Omega.{arith}
 use native.Mathlib.Decide.{decLt}
-use borrow.Author.Tests.{lt-ltb, le-ltb}
-use lib.Dec.{ltb}
 use native.Mathlib.Numerals.{add-one}
+use borrow.Author.Tests.{lt-ltb, le-ltb}
 use lib.ListN.{length, getD, take, drop, length-append}
 use lib.Seq.{take-suc, split-at}
 use Rattle.listing.specs.Text.{lastDigit, digits, decimal, blank, lineFeed, fields, line, groupWord}
@@ -19,7 +17,10 @@ digits-enough : (m n x : ℕ) → x < m → x < n → digits m x ≡ digits n x
 unfolding digits
 digits-enough zero n x h k = absurd (omega arith)
 digits-enough (suc m) zero x h k = absurd (omega arith)
-digits-enough (suc m) (suc n) x h k = elim (decLt x 10) [ yes l ↦ rw (lt-ltb x 10 l) | no l ↦ ap (λ (before : List ℕ). cond (ltb x 10) [] before ++ lastDigit x ∷ []) (digits-enough m n (x / 10) (omega arith) (omega arith)) ]
+digits-enough (suc m) (suc n) x h k = elim (decLt x 10) [
+  | yes l ↦ rw (lt-ltb x 10 l)
+  | no l ↦ rw (digits-enough m n (x / 10) (omega arith) (omega arith))
+]
 
 pub decimal-one : (x : ℕ) → x < 10 → decimal x ≡ lastDigit x ∷ []
 unfolding decimal digits
@@ -27,11 +28,14 @@ decimal-one x h = rw (lt-ltb x 10 h)
 
 pub decimal-more : (x : ℕ) → 10 ≤ x → decimal x ≡ decimal (x / 10) ++ lastDigit x ∷ []
 unfolding decimal digits
-decimal-more x h = rw (le-ltb x 10 h) (ap (λ (before : List ℕ). before ++ lastDigit x ∷ []) (digits-enough x (suc (x / 10)) (x / 10) (omega arith) (omega arith)))
+decimal-more x h = rw (le-ltb x 10 h, digits-enough x (suc (x / 10)) (x / 10) (omega arith) (omega arith))
 
 pub decimal-short : (d x : ℕ) → x < 10 ^ suc d → length (decimal x) ≤ suc d
 decimal-short zero x h = rw (decimal-one x h) (omega arith)
-decimal-short (suc d) x h = elim (decLt x 10) [ yes l ↦ rw (decimal-one x l) (omega arith) | no l ↦ longer (omega arith) (decimal-short d (x / 10)) ]
+decimal-short (suc d) x h = elim (decLt x 10) [
+  | yes l ↦ rw (decimal-one x l) (omega arith)
+  | no l ↦ longer (omega arith) (decimal-short d (x / 10))
+]
   where
     longer : 10 ≤ x → (x / 10 < 10 ^ suc d → length (decimal (x / 10)) ≤ suc d) → length (decimal x) ≤ suc (suc d)
     longer l on =
@@ -63,13 +67,19 @@ pub line-length : (word xs : List ℕ) → length (line word xs) ≡ length word
 line-length word xs = length-append (word ++ fields xs) (lineFeed ∷ []) ∙ rw (length-append word (fields xs))
 
 -- a group's line has at most 19 bytes
-pub group-line-short : (c count hold : ℕ) → c < 1024 → count ≤ 1024 → hold ≤ 16 → length (line groupWord (c ∷ count ∷ hold ∷ [])) ≤ 19
+pub group-line-short : (c count hold : ℕ) → c < 1024 → count ≤ 1024 → hold ≤ 16
+    → length (line groupWord (c ∷ count ∷ hold ∷ [])) ≤ 19
 group-line-short c count hold h k l =
-    omega
-    (arith, line-length groupWord (c ∷ count ∷ hold ∷ []), fields-length c (count ∷ hold ∷ []), fields-length count (hold ∷ []), field-short 3 c (omega arith), field-short 3 count (omega arith), field-short 1 hold (omega arith))
+    let sum = line-length groupWord (c ∷ count ∷ hold ∷ []) in
+    let first = fields-length c (count ∷ hold ∷ []) in
+    let second = fields-length count (hold ∷ []) in
+    omega (arith, field-short 3 c (omega arith), field-short 3 count (omega arith), field-short 1 hold (omega arith))
 
 -- there is room for one number more
-pub fields-room : (xs : List ℕ) (i : ℕ) → i < length xs → length (fields (take i xs)) + length (fields (getD xs i 0 ∷ [])) ≤ length (fields xs)
+pub fields-room : (xs : List ℕ) (i : ℕ) → i < length xs
+    → length (fields (take i xs)) + length (fields (getD xs i 0 ∷ [])) ≤ length (fields xs)
 fields-room xs i h =
-    omega
-    (arith, ap (λ (l : List ℕ). length (fields l)) (split-at xs i 0 h), ap length (fields-append (take i xs) (getD xs i 0 ∷ drop (suc i) xs)), length-append (fields (take i xs)) (fields (getD xs i 0 ∷ drop (suc i) xs)), fields-length (getD xs i 0) (drop (suc i) xs))
+    let rest : List ℕ = getD xs i 0 ∷ drop (suc i) xs in
+    let whole = ap (λ (l : List ℕ). length (fields l)) (split-at xs i 0 h) in
+    let parted = ap length (fields-append (take i xs) rest) in
+    omega (arith, length-append (fields (take i xs)) (fields rest), fields-length (getD xs i 0) (drop (suc i) xs))

@@ -9,13 +9,12 @@ use lib.Seq.{length-sets}
 use Rattle.forest.specs.Arrays.{freshParents, freshSizes, freshLabels}
 use Rattle.graph.specs.Forest.{Labelled}
 use Rattle.book.specs.declared.Book.{Book}
-use Rattle.book.specs.Arrays.{Arrays, cells, arraysOf, unitedAll}
+use Rattle.book.specs.Arrays.{cells, arraysOf, unitedAll}
 use Rattle.book.specs.Log.{Readable}
 use Rattle.window.specs.Window.{windowLinks}
 use Rattle.window.specs.Gathered.{onesOf, othersOf, labelsOf, Put, linksIn}
 use Rattle.window.proofs.Gathered.{put-read}
 use Rattle.window.proofs.WindowLinks.{readable-few}
-use Rattle.listing.specs.declared.trees.WindowForest.{WindowForest}
 use Rattle.listing.specs.Trees.{windowArrays, windowForestOf}
 
 pub record Gathers (b : Book) (log : List ℕ) (count : ℕ) (ones others labels : List ℕ) : Type 0 where

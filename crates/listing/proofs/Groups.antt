@@ -4,17 +4,16 @@
 -- tree. At cut m no step of the tree is cut, so any two of its cells are chained by links from label m on. And the step of
 -- label m, from c to its parent p, is cut at every higher cut j: there c is its own root, and p's walk, along which sizes
 -- grow, never comes to c. So the pair c, p holds for m - 1 closings and no other pair for fewer.
-use Prim.Native.Nat.{ℕ, zero, suc, _+_, _-_, _*_, _≤_, _<_, min}
-use mathlib.Core.Path.{_≡_, refl, sym, ap, ap₂, _∙_}
+use Prim.Native.Nat.{ℕ, zero, suc, _+_, _-_, _≤_, _<_}
+use mathlib.Core.Path.{_≡_, refl, sym, ap, _∙_}
 use mathlib.Core.Bool.{Bool, true, false, cond}
-use mathlib.Core.List.{List, [], _∷_, _++_, map, List·Memᴰ, List·Memᴰ·head, List·Memᴰ·tail}
-use mathlib.Core.Logic.{_↔_, _⊎_, inl, inr}
+use mathlib.Core.List.{List, [], _∷_, List·Memᴰ}
+use mathlib.Core.Logic.{_↔_, inl, inr}
 use native.Mathlib.Omega.{arith}
-use native.Mathlib.Decide.{ℕ-discrete, decLe}
+use native.Mathlib.Decide.{ℕ-discrete}
 use native.Mathlib.Nat.{le-refl}
-use borrow.Author.Tests.{eq-eqb, ne-eqb, eqb-true, eqb-false, lt-ltb, le-ltb}
+use borrow.Author.Tests.{eq-eqb, ne-eqb, eqb-true, lt-ltb, le-ltb}
 use lib.Dec.{eqb, ltb}
-use lib.ListN.{length}
 use Rattle.graph.specs.Link.{Chained, chains}
 use Rattle.graph.specs.Forest.{Forest, Walk, Labelled, Each, EndsBelow, NeverRise, climb, walk, walkAt, parentAt, forestOf, atLeast}
 use Rattle.graph.proofs.Chains.{true-chains, false-chains, chained-sym}
@@ -23,8 +22,8 @@ use Rattle.graph.proofs.Cut.{each-map, all-at-least, same-root-at}
 use Rattle.forest.specs.Arrays.{countFrom}
 use Rattle.book.specs.Arrays.{cells, most}
 use Rattle.window.specs.Window.{linksFrom}
-use Rattle.listing.specs.Groups.{those, groupOf, holdOf, leastHold, groupLine, groupLines}
-use Rattle.listing.specs.Trees.{treeOf, lower, leastLabel, treeLine, treeLines}
+use Rattle.listing.specs.Groups.{groupOf, holdOf, leastHold, groupLines}
+use Rattle.listing.specs.Trees.{treeOf, leastLabel, treeLine, treeLines}
 use Rattle.listing.proofs.Cells.{in-count, count-in, in-those, those-in, those-agree}
 use Rattle.listing.proofs.Labels.{Found, label-top, label-least, label-found}
 use Rattle.listing.proofs.Highest.{highest-least, highest-most, hold-least, hold-most, hold-n}
@@ -58,10 +57,10 @@ climb-step up most c e = rw (ne-eqb (up c) c e)
 -- ---- trees
 
 module _ (root : ℕ → ℕ) {r c : ℕ} where
-  pub in-tree : c < cells → root c ≡ r → List·Memᴰ c (treeOf root r)
+  in-tree : c < cells → root c ≡ r → List·Memᴰ c (treeOf root r)
   in-tree h e = in-those (λ d. eqb (root d) r) (in-count 0 cells (omega arith) (omega arith)) (eq-eqb (root c) r e)
 
-  pub tree-in : List·Memᴰ c (treeOf root r) → (c < cells) × (root c ≡ r)
+  tree-in : List·Memᴰ c (treeOf root r) → (c < cells) × (root c ≡ r)
   tree-in m =
       let is = those-in (λ d. eqb (root d) r) (countFrom 0 cells) m in
       (omega (arith, count-in 0 cells (is .1) .1), eqb-true (root c) r (is .0))
@@ -88,14 +87,20 @@ module _ {n : ℕ} {xs ys : List Labelled} (w : Ordered n xs ys) where
   -- two cells have one root exactly when the window's links chain them
   one-root : (a b : ℕ) → (root a ≡ root b) ↔ Chained (linksFrom 1 xs) a b
   unfolding walk
-  one-root a b = (λ e. w .chain 1 a b .1 (rw all (same-root (le-refl 10) (w .ends) a b .0 e)), λ k. same-root (le-refl 10) (w .ends) a b .1 (rw all at (w .chain 1 a b .0 k)))
+  one-root a b =
+      let same = same-root (le-refl 10) (w .ends) a b in
+      let chain = w .chain 1 a b in
+      (λ e. chain .1 (rw all (same .0 e)), λ k. same .1 (rw all at (chain .0 k)))
     where
       all : atLeast 1 ys ≡ ys
       all = all-at-least 1 (each-map (λ y p. p .0) (w .labels))
 
   one-root-at : (j a b : ℕ) → (rootAt j a ≡ rootAt j b) ↔ Chained (linksFrom j xs) a b
   unfolding walkAt
-  one-root-at j a b = (λ e. w .chain j a b .1 (same-root-at (le-refl 10) (w .ends) (w .falls) j a b .0 e), λ k. same-root-at (le-refl 10) (w .ends) (w .falls) j a b .1 (w .chain j a b .0 k))
+  one-root-at j a b =
+      let same = same-root-at (le-refl 10) (w .ends) (w .falls) j a b in
+      let chain = w .chain j a b in
+      (λ e. chain .1 (same .0 e), λ k. same .1 (chain .0 k))
 
   group-is-tree : (c : ℕ) → groupOf xs c ≡ treeOf root (root c)
   group-is-tree c = those-agree _ _ 0 cells (λ d h k. same d (ℕ-discrete (root d) (root c)))
@@ -110,11 +115,17 @@ module _ {n : ℕ} {xs ys : List Labelled} (w : Ordered n xs ys) where
   enough-steps m c h = ap (λ v. v .root) (walk-agree (le-refl 10) (w .ends) m 10 c h (le-refl 10))
 
   root-up : (c : ℕ) → root (f .parent c) ≡ root c
-  root-up c = elim (ℕ-discrete (f .parent c) c) [ yes e ↦ ap root e | no e ↦ sym (climb-step (f .parent) most c e) ∙ enough-steps 11 c (omega arith) ]
+  root-up c = elim (ℕ-discrete (f .parent c) c) [
+    | yes e ↦ ap root e
+    | no e ↦ sym (climb-step (f .parent) most c e) ∙ enough-steps 11 c (omega arith)
+  ]
 
   -- a step to the parent leads to a larger size
   grows : (c : ℕ) → f .size c ≤ f .size (f .parent c)
-  grows c = elim (ℕ-discrete (f .parent c) c) [ yes e ↦ rw e (le-refl _) | no e ↦ omega (arith, doubling (le-refl 10) (w .ends) c e) ]
+  grows c = elim (ℕ-discrete (f .parent c) c) [
+    | yes e ↦ rw e (le-refl _)
+    | no e ↦ omega (arith, doubling (le-refl 10) (w .ends) c e)
+  ]
 
   -- ---- the two ends of a step above whose label the cut is
 
@@ -133,7 +144,9 @@ module _ {n : ℕ} {xs ys : List Labelled} (w : Ordered n xs ys) where
             go false = omega (arith, grows x)
 
     apart : rootAt j c ≡ rootAt j (f .parent c) → ⊥
-    apart e = omega (arith, never-back, ap (f .size) (sym own-root ∙ e), doubling (le-refl 10) (w .ends) c step, size-positive (le-refl 10) (w .ends) c)
+    apart e =
+        let back = ap (f .size) (sym own-root ∙ e) in
+        omega (arith, never-back, doubling (le-refl 10) (w .ends) c step, size-positive (le-refl 10) (w .ends) c)
 
   -- ---- the least hold of a tree
 
@@ -147,8 +160,11 @@ module _ {n : ℕ} {xs ys : List Labelled} (w : Ordered n xs ys) where
     -- at the cut of the smallest label no step of the tree is cut
     uncut : (c : ℕ) → c < cells → root c ≡ r → rootAt least c ≡ r
     uncut c h e =
-        sym (ap (λ v. v .root) (climb-agree (f .parent) (parentAt f least) (λ x. (x < cells) × (root x ≡ r)) agree keeps most c (h, e))) ∙ e
+        sym (ap (λ v. v .root) (climb-agree (f .parent) (parentAt f least) InTree agree keeps most c (h, e))) ∙ e
       where
+        InTree : ℕ → Type 0
+        InTree x = (x < cells) × (root x ≡ r)
+
         stays : (x : ℕ) (t : Bool) → f .parent x ≡ x → f .parent x ≡ cond t x (f .parent x)
         stays x true k = k
         stays x false k = refl
@@ -171,14 +187,18 @@ module _ {n : ℕ} {xs ys : List Labelled} (w : Ordered n xs ys) where
         omega (arith, highest-least xs a b (suc n) least (omega arith) joined)
 
     tree-hold : leastHold n xs tree ≡ least - 1
-    tree-hold = omega (arith, high (label-found (n + 1) (f .parent) (f .label) tree), hold-least n xs (least - 1) tree (omega (arith, label-top (n + 1) (f .parent) (f .label) tree)) together)
+    tree-hold = omega (arith, low, high (label-found (n + 1) (f .parent) (f .label) tree))
       where
+        low : least - 1 ≤ leastHold n xs tree
+        low = hold-least n xs (least - 1) tree (omega (arith, label-top (n + 1) (f .parent) (f .label) tree)) together
+
         high : Found (n + 1) (f .parent) (f .label) tree least → leastHold n xs tree ≤ least - 1
         high (inl e) = omega (arith, hold-n n xs tree)
         high (inr (c, m, step, e)) =
             let p : ℕ = f .parent c in
             let is = tree-in root m in
-            hold-most n xs (least - 1) m (in-tree root (parent-below (le-refl 10) (w .ends) c (is .0)) (root-up c ∙ is .1)) (λ k. step (sym k))
+            let over = in-tree root (parent-below (le-refl 10) (w .ends) c (is .0)) (root-up c ∙ is .1) in
+            hold-most n xs (least - 1) m over (λ k. step (sym k))
             (omega (arith, highest-most xs c p (suc n) least (λ j above k. apart c step j (omega arith) (one-root-at j c p .1 k))))
             (omega (arith, highest-most xs p c (suc n) least (λ j above k. apart c step j (omega arith) (one-root-at j c p .1 (chained-sym k)))))
 

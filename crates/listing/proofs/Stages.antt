@@ -31,7 +31,8 @@ read-size file {r} e fine = rw e (go (readNumber file) refl (sym (ap (λ a. a .n
     go (suc k) q n = absurd (omega arith)
 
 -- the length that is given is within the output
-pub listed-within : (file out : List ℕ) {answer : Listed} {out′ : List ℕ} → Lists (listingOf file out) answer out′ → answer .length ≤ length out′
+pub listed-within : (file out : List ℕ) {answer : Listed} {out′ : List ℕ} → Lists (listingOf file out) answer out′
+    → answer .length ≤ length out′
 unfolding listingOf listedIf
 listed-within file out l = rw (l .answered, l .written) (within (leb outputPlaces (length out)))
   where
@@ -55,53 +56,76 @@ unfolding playedText
 refused-played zero p n = absurd (n refl)
 refused-played (suc k) p n = refl
 
-module _ (file : List ℕ) {r : Reading} (read : r ≡ readOf file) where
-  pub reading-refused : ¬ (r .number ≡ 0) → listingText file ≡ refusedFile (r .number)
-  unfolding listingText
-  reading-refused n = rw (← read) (refused-read (r .number) file r n)
+-- ---- reading
 
-  module _ (fine : r .number ≡ 0) {start : Book} (never : start ≡ neverOpened) {a : Answer} {log : List ℕ}
-      (opens : Gives (openingOf start (replicate logPlaces 0) (r .settings)) a log) where
-    o : Outcome
-    o = openingOf neverOpened (replicate logPlaces 0) (r .settings)
+pub reading-refused : (file : List ℕ) {r : Reading} → r ≡ readOf file → ¬ (r .number ≡ 0) → listingText file ≡ refusedFile (r .number)
+unfolding listingText
+reading-refused file {r} read n = rw (← read) (refused-read (r .number) file r n)
 
-    same-number : o .number ≡ a .number
-    unfolding o
-    same-number = ap (λ b. openingOf b (replicate logPlaces 0) (r .settings) .number) (sym never) ∙ sym (ap (λ x. x .number) (opens .answered))
+-- ---- opening
 
-    is-opened : listingText file ≡ openedText (o .number) file (r .m) o
-    unfolding listingText readText o
-    is-opened = rw (← read, fine)
+-- a file that is taken, and a book that was never opened, over a log of zeros
+pub record Opened (file : List ℕ) (r : Reading) (start : Book) (a : Answer) (log : List ℕ) : Type 0 where
+  pub read : r ≡ readOf file
+  pub fine : r .number ≡ 0
+  pub never : start ≡ neverOpened
+  pub opens : Gives (openingOf start (replicate logPlaces 0) (r .settings)) a log
 
-    pub opening-refused : ¬ (a .number ≡ 0) → listingText file ≡ refusedFile (a .number)
-    opening-refused n = is-opened ∙ ap (λ k. openedText k file (r .m) o) same-number ∙ refused-opened (a .number) file (r .m) o n
+module _ {file : List ℕ} {r : Reading} {start : Book} {a : Answer} {log : List ℕ} (s : Opened file r start a log) where
+  o : Outcome
+  o = openingOf neverOpened (replicate logPlaces 0) (r .settings)
 
-    module _ (opened : a .number ≡ 0) {p : Played} {log′ : List ℕ} (plays : Plays (playFrom file 0 (r .m) (a .book) log) p log′) where
-      played : Play
-      played = playFrom file 0 (r .m) (o .book) (o .log)
+  same-number : o .number ≡ a .number
+  unfolding o
+  same-number =
+      ap (λ b. openingOf b (replicate logPlaces 0) (r .settings) .number) (sym (s .never))
+      ∙ sym (ap (λ x. x .number) (s .opens .answered))
 
-      -- the outcome's book and log are those that are played into
-      same-play : playFrom file 0 (r .m) (a .book) log ≡ played
-      unfolding o played
-      same-play = rw (opens .answered, opens .logged, never)
+  is-opened : listingText file ≡ openedText (o .number) file (r .m) o
+  unfolding listingText readText o
+  is-opened = rw (← s .read, s .fine)
 
-      number-of : played .number ≡ p .number
-      number-of = sym (ap (λ x. x .number) same-play) ∙ sym (ap (λ x. x .number) (plays .played))
+  pub opening-refused : ¬ (a .number ≡ 0) → listingText file ≡ refusedFile (a .number)
+  opening-refused n = is-opened ∙ ap (λ k. openedText k file (r .m) o) same-number ∙ refused-opened (a .number) file (r .m) o n
 
-      is-played : listingText file ≡ playedText (played .number) played
-      unfolding openedText o played
-      is-played = is-opened ∙ rw (same-number ∙ opened)
+-- ---- playing
 
-      pub record-refused : ¬ (p .number ≡ 0) → listingText file ≡ refusedRecord (p .number) (p .place)
-      record-refused n =
-          is-played ∙ ap (λ k. playedText k played) number-of ∙ refused-played (p .number) played n
-          ∙ ap (refusedRecord (p .number)) (sym (ap (λ x. x .place) same-play) ∙ sym (ap (λ x. x .place) (plays .played)))
+-- and the records played into it
+pub record PlayedInto (file : List ℕ) (r : Reading) (start : Book) (a : Answer) (log : List ℕ) (p : Played) (log′ : List ℕ) : Type 0 where
+  pub opening : Opened file r start a log
+  pub opened : a .number ≡ 0
+  pub plays : Plays (playFrom file 0 (r .m) (a .book) log) p log′
 
-      pub book-listed : p .number ≡ 0 → listingText file ≡ bookText (p .book) log′
-      unfolding playedText
-      book-listed n = is-played ∙ rw (number-of ∙ n, ← same-play, plays .played, plays .logged)
+module _ {file : List ℕ} {r : Reading} {start : Book} {a : Answer} {log : List ℕ} {p : Played} {log′ : List ℕ}
+    (s : PlayedInto file r start a log p log′) where
+  played : Play
+  played = playFrom file 0 (r .m) (o (s .opening) .book) (o (s .opening) .log)
 
-      pub book-ready : p .number ≡ 0 → Ready (p .book) log′
-      book-ready n =
-          let start : Ready (a .book) log = rw (opens .answered, opens .logged) (opening-ready start _ (r .settings) (sym (ap (λ x. x .number) (opens .answered)) ∙ opened)) in
-          rw (plays .played, plays .logged) (played-ready file 0 (r .m) (a .book) log start (sym (ap (λ x. x .number) (plays .played)) ∙ n))
+  -- the outcome's book and log are those that are played into
+  same-play : playFrom file 0 (r .m) (a .book) log ≡ played
+  unfolding o played
+  same-play = rw (s .opening .opens .answered, s .opening .opens .logged, s .opening .never)
+
+  number-of : played .number ≡ p .number
+  number-of = sym (ap (λ x. x .number) same-play) ∙ sym (ap (λ x. x .number) (s .plays .played))
+
+  is-played : listingText file ≡ playedText (played .number) played
+  unfolding openedText o played
+  is-played = is-opened (s .opening) ∙ rw (same-number (s .opening) ∙ s .opened)
+
+  pub record-refused : ¬ (p .number ≡ 0) → listingText file ≡ refusedRecord (p .number) (p .place)
+  record-refused n =
+      is-played ∙ ap (λ k. playedText k played) number-of ∙ refused-played (p .number) played n
+      ∙ ap (refusedRecord (p .number)) (sym (ap (λ x. x .place) same-play) ∙ sym (ap (λ x. x .place) (s .plays .played)))
+
+  pub book-listed : p .number ≡ 0 → listingText file ≡ bookText (p .book) log′
+  unfolding playedText
+  book-listed n = is-played ∙ rw (number-of ∙ n, ← same-play, s .plays .played, s .plays .logged)
+
+  pub book-ready : p .number ≡ 0 → Ready (p .book) log′
+  book-ready n =
+      let opens = s .opening .opens in
+      let opened = sym (ap (λ x. x .number) (opens .answered)) ∙ s .opened in
+      let before : Ready (a .book) log = rw (opens .answered, opens .logged) (opening-ready start _ (r .settings) opened) in
+      let ended = sym (ap (λ x. x .number) (s .plays .played)) ∙ n in
+      rw (s .plays .played, s .plays .logged) (played-ready file 0 (r .m) (a .book) log before ended)

@@ -1,10 +1,9 @@
 -- A pass over the cells, from the last to the first, that stores at each cell's root: when it is done, the array holds of each
 -- root what one function gives of its tree. The number of cells, the smallest cell and the smallest label are three such
 -- functions.
-use Prim.Native.Nat.{ℕ, zero, suc, _+_, _-_, _≤_, _<_}
-use mathlib.Core.Path.{_≡_, refl, sym, ap, _∙_}
-use mathlib.Core.Bool.{Bool, true, false, cond}
-use mathlib.Core.List.{List, [], _∷_, map}
+use Prim.Native.Nat.{ℕ, suc, _-_, _≤_, _<_}
+use mathlib.Core.Path.{_≡_, sym, ap, _∙_}
+use mathlib.Core.List.{List, [], _∷_}
 use native.Mathlib.Omega.{arith}
 use native.Mathlib.Decide.{ℕ-discrete}
 use borrow.Author.Tests.{eq-eqb, ne-eqb}
@@ -54,13 +53,18 @@ module _ {f : List ℕ → ℕ} {root : ℕ → ℕ} where
   tallied-one {a} {c} {r} {v} t h e below is =
       record { within = omega (arith, t .within); long = length-set a r v ∙ t .long; stored = at }
     where
+      cell : c - 1 < cells
+      cell = omega (arith, t .within)
+
       next : suc (c - 1) ≡ c
       next = omega arith
 
       at : (s : ℕ) → s < cells → getD (set a r v) s 0 ≡ f (treeFrom root s (c - 1))
       at s k = elim (ℕ-discrete s r) [
-        | yes q ↦ rw q (getD-set-same a r v 0 (rw (t .long) below) ∙ is ∙ ap f (sym (rw next at (tree-one root (c - 1) r (omega (arith, t .within)) e))))
-        | no q ↦ getD-set-other a r s v 0 q ∙ t .stored s k ∙ ap f (sym (rw next at (tree-other root (c - 1) s (omega (arith, t .within)) (λ w. q (sym w ∙ e)))))
+        | yes q ↦ rw q (getD-set-same a r v 0 (rw (t .long) below) ∙ is ∙ ap f (sym (rw next at (tree-one root (c - 1) r cell e))))
+        | no q ↦
+            let other = tree-other root (c - 1) s cell (λ w. q (sym w ∙ e)) in
+            getD-set-other a r s v 0 q ∙ t .stored s k ∙ ap f (sym (rw next at other))
       ]
 
   pub tallied-all : {a : List ℕ} {c : ℕ} → Tallied f root a c → c ≤ 0 → a ≡ ofTrees f root

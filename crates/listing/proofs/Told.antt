@@ -1,7 +1,7 @@
 -- What the arrays of the passes tell at a cell: they are asked at its root, and give what the cell's tree gives. So a cell's line
 -- is that of its tree, and has at most 19 bytes.
-use Prim.Native.Nat.{ℕ, zero, suc, _+_, _-_, _≤_, _<_}
-use mathlib.Core.Path.{_≡_, refl, sym, ap, _∙_}
+use Prim.Native.Nat.{ℕ, _+_, _-_, _≤_, _<_}
+use mathlib.Core.Path.{_≡_, ap, _∙_}
 use mathlib.Core.Bool.{Bool, true, false, _&&_}
 use mathlib.Core.List.{List, [], _∷_, _++_, append-assoc, append-nil}
 use mathlib.Core.Logic.{inl, inr}
@@ -16,7 +16,7 @@ use Rattle.forest.specs.Arrays.{countFrom, parentIn, labelIn, rootsOf}
 use Rattle.forest.proofs.Fill.{length-each, getD-each}
 use Rattle.forest.proofs.Held.{root-below}
 use Rattle.book.specs.Arrays.{cells, most}
-use Rattle.listing.specs.Groups.{those, smallest, groupLineIf}
+use Rattle.listing.specs.Groups.{smallest, groupLineIf}
 use Rattle.listing.specs.Trees.{rootIn, Roots, treeOf, ofTrees, leastLabel, treeLine, treeLines, Listable}
 use Rattle.listing.proofs.Cells.{count-more, those-agree}
 use Rattle.listing.proofs.Decimal.{group-line-short}
@@ -87,7 +87,9 @@ module _ {n : ℕ} {ps ls roots firsts counts leasts : List ℕ} (t : Told n ps 
 
   -- the line that the arrays give
   abbrev text : List ℕ
-  text = groupLineIf (eqb (getD firsts (rootIn roots c) 0) c && ltb 1 (getD counts (rootIn roots c) 0)) c (getD counts (rootIn roots c) 0) (getD leasts (rootIn roots c) 0 - 1)
+  text =
+      let r : ℕ = rootIn roots c in
+      groupLineIf (eqb (getD firsts r 0) c && ltb 1 (getD counts r 0)) c (getD counts r 0) (getD leasts r 0 - 1)
 
   pub told-line : text ≡ treeLine n (parentIn ps) (labelIn ls) c
   unfolding treeLine
@@ -98,8 +100,11 @@ module _ {n : ℕ} {ps ls roots firsts counts leasts : List ℕ} (t : Told n ps 
   count-most = rw count-at (tree-short rootOf (rootOf c) 0)
 
   pub least-range : (1 ≤ getD leasts (rootIn roots c) 0) × (getD leasts (rootIn roots c) 0 ≤ 17)
-  least-range = rw least-at (from-one (label-found (n + 1) (parentIn ps) (labelIn ls) tree), omega (arith, label-top (n + 1) (parentIn ps) (labelIn ls) tree, t .listable .width))
+  least-range = rw least-at (from-one (label-found (n + 1) (parentIn ps) (labelIn ls) tree), omega (arith, top, t .listable .width))
     where
+      top : leastLabel (n + 1) (parentIn ps) (labelIn ls) tree ≤ n + 1
+      top = label-top (n + 1) (parentIn ps) (labelIn ls) tree
+
       from-one : {m : ℕ} → Found (n + 1) (parentIn ps) (labelIn ls) tree m → 1 ≤ m
       from-one (inl e) = omega arith
       from-one (inr (d, _, step, e)) = omega (arith, t .listable .from-one d step)

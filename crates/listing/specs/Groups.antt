@@ -1,6 +1,6 @@
 -- The groups of a window's links (document 01, "The listing"): cells that the links chain together, the smallest cell of
 -- each, how many there are, and the least hold over its pairs. Nothing here speaks of forests.
-use Prim.Native.Nat.{ℕ, zero, suc, _-_, min}
+use Prim.Native.Nat.{ℕ, suc, _-_, min}
 use mathlib.Core.Bool.{Bool, true, false, cond, _&&_}
 use mathlib.Core.List.{List, [], _∷_, _++_}
 use lib.Dec.{eqb, ltb}

@@ -1,6 +1,5 @@
 -- `listing::list` meets its contract: the text stands at the front of an output that has room, and a shorter one is left alone.
-use mathlib.Core.Path.{refl, sym, _∙_}
-use native.Mathlib.Omega.{arith}
+use mathlib.Core.Path.{refl, _∙_}
 use native.Mathlib.Nat.{zero-add}
 use borrow.Author.Needs.{needs}
 use borrow.Author.Tests.{le-leb, lt-leb}

@@ -1,6 +1,5 @@
 -- `listing::put_book` meets its contract: three parts, one after the other, of at most 47, 19,456 and 11 bytes.
 use Prim.Native.Nat.{_≤_}
-use mathlib.Core.Path.{_∙_}
 use native.Mathlib.Omega.{arith}
 use borrow.Author.Needs.{needs}
 use Rattle.window.proofs.WindowLinks.{readable-few}
@@ -20,7 +19,8 @@ put-groups-requires : tie.Need-put-groups-requires
 put-groups-requires c κs =
     let entry = c .before .before .before .before .before .before .before .before .before .before .before in
     let window = c .before .before .before .before .before .before .before .put-window in
-    (forest-listable _ _ (c .before .before .before .before .window-forest .ensures) (entry .pre .0), omega (arith, window .ensures .1, window .kept .1 .1 .0, entry .pre .1))
+    let listable = forest-listable _ _ (c .before .before .before .before .window-forest .ensures) (entry .pre .0) in
+    (listable, omega (arith, window .ensures .1, window .kept .1 .1 .0, entry .pre .1))
 
 slice-aggregate-put-line : tie.Need-slice-aggregate-put-line
 slice-aggregate-put-line c = search needs
@@ -38,9 +38,9 @@ put-line-requires c κs =
     let entry = c .before .before .before .before .before .before .before .before .before .before .before .before .before .before .before .before .before in
     let window = c .before .before .before .before .before .before .before .before .before .before .before .before .before .put-window in
     let groups = c .before .before .before .before .before .put-groups in
-    let few = few-links (c .before .before .before .before .before .before .before .before .before .before) in
-    omega
-    (arith, links-line-short (c .before .before .before .before .before .before .before .before .before .before .window-forest .result .count) few, window .ensures .1, window .kept .1 .1 .0, groups .ensures .1, groups .kept .1 .1 .1 .0, entry .pre .1)
+    let forest = c .before .before .before .before .before .before .before .before .before .before in
+    let short = links-line-short (forest .window-forest .result .count) (few-links forest) in
+    omega (arith, window .ensures .1, window .kept .1 .1 .0, groups .ensures .1, groups .kept .1 .1 .1 .0, entry .pre .1)
 
 same-length : tie.Need-same-length
 same-length c = search needs
@@ -51,7 +51,8 @@ returns c =
     let forest = c .before .before .before .before .before .before .before .before .before .before .before .before .before in
     let window = c .before .before .before .before .before .before .before .before .before .before .before .before .before .before .before .before .put-window .ensures .0 in
     let groups = c .before .before .before .before .before .before .before .before .put-groups .ensures .0 in
-    written-then (written-then window (rw (forest-lines _ _ (forest .window-forest .ensures)) at groups)) (rw (forest-count _ _ (forest .window-forest .ensures)) at (c .before .before .put-line .ensures))
+    written-then (written-then window (rw (forest-lines _ _ (forest .window-forest .ensures)) at groups))
+    (rw (forest-count _ _ (forest .window-forest .ensures)) at (c .before .before .put-line .ensures))
 
 pub put-book-spec : {M : Type 1} → statement M
 put-book-spec =

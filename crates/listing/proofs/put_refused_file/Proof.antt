@@ -24,7 +24,8 @@ put-word-requires : tie.Need-put-word-requires
 put-word-requires c κs =
     let entry = c .before .before .before .before .before .before .before .before .before in
     let before = c .before .before .before .before .put-fields in
-    omega (arith, field-short 2 (entry .args .number) (omega (arith, entry .fits .number .fits)), entry .pre, before .ensures .until, before .kept .1 .1 .0)
+    let short = field-short 2 (entry .args .number) (omega (arith, entry .fits .number .fits)) in
+    omega (arith, entry .pre, before .ensures .until, before .kept .1 .1 .0)
 
 same-length : tie.Need-same-length
 same-length c = search needs

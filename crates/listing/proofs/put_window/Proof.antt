@@ -30,7 +30,8 @@ short : (c : tie.After-open-slide)
 short c =
     let entry = c .before .before .before .before in
     let known = c .before .struct-known2 .given in
-    window-line-short (entry .args .clock .n) (entry .args .clock .b) (entry .args .mounting) (c .open-slide .result) (omega (arith, known)) (omega (arith, known)) (omega (arith, entry .fits .mounting)) (omega (arith, c .open-slide .ok))
+    window-line-short (entry .args .clock .n) (entry .args .clock .b) (entry .args .mounting) (c .open-slide .result)
+    (omega (arith, known)) (omega (arith, known)) (omega (arith, entry .fits .mounting)) (omega (arith, c .open-slide .ok))
 
 put-line-requires : tie.Need-put-line-requires
 put-line-requires c κs = omega (arith, short (c .before .before .before), c .before .before .before .before .before .before .before .pre)
@@ -41,7 +42,8 @@ same-length c = search needs
 returns : tie.Need-returns
 returns c =
     let slide = c .before .before .before .before .before .before in
-    (rw (← slide .open-slide .ensures) (c .before .before .put-line .ensures), omega (arith, c .before .before .put-line .ensures .until, short slide))
+    let written = c .before .before .put-line .ensures in
+    (rw (← slide .open-slide .ensures) written, omega (arith, written .until, short slide))
 
 pub put-window-spec : {M : Type 1} → statement M
 put-window-spec =

@@ -2,13 +2,12 @@
 -- last digit comes after what stands before it.
 use Prim.Native.Nat.{ℕ, _+_, _/_, _≤_, _<_}
 use mathlib.Core.Path.{_≡_, ap, _∙_}
-use mathlib.Core.List.{_++_, _∷_, []}
+use mathlib.Core.List.{_∷_, []}
 use native.Mathlib.Omega.{arith}
 use lib.ListN.{length, length-append}
 use borrow.Fn.Kinds.{In}
 use borrow.Fn.PlainCycle.{Measures, is, falls, and}
 use Rattle.listing.specs.Text.{lastDigit, decimal}
-use Rattle.listing.specs.Output.{Written}
 use Rattle.listing.proofs.Decimal.{decimal-one, decimal-more}
 use Rattle.listing.proofs.Writing.{written-then}
 use Rattle.listing.proofs.text.put_number.Reads as put-number

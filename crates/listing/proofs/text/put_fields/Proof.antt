@@ -1,7 +1,7 @@
 -- `listing::text::put_fields` meets its contract: after the word, as many numbers as there were turns are written.
-use Prim.Native.Nat.{_+_, _-_, _≤_}
+use Prim.Native.Nat.{ℕ, _+_, _-_, _≤_}
 use mathlib.Core.Path.{_∙_}
-use mathlib.Core.List.{[], _∷_}
+use mathlib.Core.List.{List, [], _∷_}
 use native.Mathlib.Omega.{arith}
 use lib.ListN.{length, getD, take, length-append}
 use lib.Seq.{take-all}
@@ -30,19 +30,26 @@ loop-holds c =
     (omega arith, written-none _ _ (omega (arith, word .ensures .within, word .kept .1 .0)))
 
 -- there is room for the number of a turn
-room : (c : tie.In-loop Inv-loop μ-loop) → c .before .loop .end + length (fields (getD (c .before .before .before .before .before .before .before .before .before .args .numbers .now) (c .before .loop .i) 0 ∷ [])) ≤ length (c .before .loop .out)
-room c =
-    let entry = c .before .before .before .before .before .before .before .before .before in
-    let word = c .before .before .before .before .put-word in
-    let written = c .before .loop .inv .1 in
-    omega
-    (arith, fields-room (entry .args .numbers .now) (c .before .loop .i) (c .loop-test .taken), length-append (entry .args .word .now) (fields (entry .args .numbers .now)), entry .pre, word .ensures .until, word .kept .1 .0, written .until, written-length written)
+module _ (c : tie.In-loop Inv-loop μ-loop) where
+  abbrev entry : tie.Start Inv-loop μ-loop
+  entry = c .before .before .before .before .before .before .before .before .before
+
+  abbrev numbers : List ℕ
+  numbers = entry .args .numbers .now
+
+  room : c .before .loop .end + length (fields (getD numbers (c .before .loop .i) 0 ∷ [])) ≤ length (c .before .loop .out)
+  room =
+      let word = c .before .before .before .before .put-word in
+      let written = c .before .loop .inv .1 in
+      let more = fields-room numbers (c .before .loop .i) (c .loop-test .taken) in
+      let whole = length-append (entry .args .word .now) (fields numbers) in
+      omega (arith, entry .pre, word .ensures .until, word .kept .1 .0, written .until, written-length written)
 
 put-field-requires : tie.Need-put-field-requires Inv-loop μ-loop
 put-field-requires c κs = room (c .before .before)
 
 mul-put-field : tie.Need-mul-put-field Inv-loop μ-loop
-mul-put-field c = omega (arith, c .before .before .before .before .before .before .before .before .before .good .1 .0 .1)
+mul-put-field c = omega (arith, entry c .good .1 .0 .1)
 
 shared-slice-read-put-field : tie.Need-shared-slice-read-put-field Inv-loop μ-loop
 shared-slice-read-put-field c = omega arith

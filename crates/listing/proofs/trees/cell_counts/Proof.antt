@@ -1,5 +1,6 @@
 -- `listing::trees::cell_counts` meets its contract: each cell adds 1 to its tree's number.
-use Prim.Native.Nat.{suc, _-_, _<_}
+use Prim.Native.Nat.{ℕ, suc, _-_, _≤_, _<_}
+use mathlib.Core.List.{List}
 use native.Mathlib.Omega.{arith}
 use native.Mathlib.Numerals.{add-one}
 use mathlib.Core.Path.{_≡_, refl, ap, _∙_}
@@ -36,8 +37,18 @@ root-below : (c : tie.In-loop Inv-loop μ-loop) → rootIn (c .before .before .a
 root-below c = c .before .before .pre (c .before .loop .cell - 1)
 
 -- what is counted so far
-counted : (c : tie.In-loop Inv-loop μ-loop) → (let root = rootIn (c .before .before .args .root .now) in let r = root (c .before .loop .cell - 1) in getD (c .before .loop .count) r 0 ≡ length (treeFrom root r (c .before .loop .cell)))
-counted c = c .before .loop .inv .stored _ (root-below c)
+module _ (c : tie.In-loop Inv-loop μ-loop) where
+  abbrev root : ℕ → ℕ
+  root = rootIn (c .before .before .args .root .now)
+
+  abbrev tree : List ℕ
+  tree = treeFrom root (root (c .before .loop .cell - 1)) (c .before .loop .cell)
+
+  counted : getD (c .before .loop .count) (root (c .before .loop .cell - 1)) 0 ≡ length tree
+  counted = c .before .loop .inv .stored _ (root-below c)
+
+  few : length tree ≤ cells
+  few = tree-short root (root (c .before .loop .cell - 1)) (c .before .loop .cell)
 
 cast-r-2 : tie.Need-cast-r-2 Inv-loop μ-loop
 cast-r-2 c = omega (arith, root-below (c .before))
@@ -49,7 +60,7 @@ array-read-count : tie.Need-array-read-count Inv-loop μ-loop
 array-read-count c = omega (arith, root-below (c .before), c .before .before .loop .inv .long)
 
 add-count : tie.Need-add-count Inv-loop μ-loop
-add-count c = omega (arith, counted (c .before), tree-short (rootIn (c .before .before .before .args .root .now)) (rootIn (c .before .before .before .args .root .now) (c .before .before .loop .cell - 1)) (c .before .before .loop .cell))
+add-count c = omega (arith, counted (c .before), few (c .before))
 
 mul-count-2 : tie.Need-mul-count-2 Inv-loop μ-loop
 mul-count-2 c = omega (arith, root-below (c .before))
@@ -61,7 +72,9 @@ loop-less : tie.Need-loop-less Inv-loop μ-loop
 loop-less c = omega arith
 
 loop-again : tie.Need-loop-again Inv-loop μ-loop
-loop-again c = tallied-one (c .before .before .loop .inv) (c .before .loop-test .taken) refl (root-below (c .before)) (add-one _ ∙ ap suc (counted (c .before)))
+loop-again c =
+    tallied-one (c .before .before .loop .inv) (c .before .loop-test .taken) refl (root-below (c .before))
+    (add-one _ ∙ ap suc (counted (c .before)))
 
 returns : tie.Need-returns Inv-loop μ-loop
 returns c = tallied-all (c .before .loop .inv) (c .loop-test .left)

@@ -1,9 +1,9 @@
 -- `listing::trees::least_labels` meets its contract: each cell's step lowers its tree's label, if its own is smaller.
 use Prim.Native.Nat.{_-_, _<_}
 use native.Mathlib.Omega.{arith}
-use mathlib.Core.Path.{_≡_, refl, ap₂, _∙_}
+use mathlib.Core.Path.{refl, ap₂, _∙_}
 use borrow.Author.Needs.{needs}
-use lib.ListN.{length, getD, getD-replicate}
+use lib.ListN.{getD-replicate}
 use Rattle.forest.specs.Arrays.{parentIn, labelIn}
 use Rattle.forest.proofs.Fill.{getD-within}
 use Rattle.book.specs.Arrays.{cells}
@@ -72,7 +72,9 @@ loop-again c =
     let cell = head .cell - 1 in
     tallied-one (head .inv) (c .before .before .before .before .loop-test .taken) refl below
     (c .lower-label .ensures
-    ∙ ap₂ (λ p l. lower cell p (labelIn (entry .args .label .now) cell) l) (getD-within (entry .args .parent .now) cell 0 cell (omega (arith, entry .pre .1))) (head .inv .stored _ below))
+    ∙ ap₂ (λ p l. lower cell p (labelIn (entry .args .label .now) cell) l)
+    (getD-within (entry .args .parent .now) cell 0 cell (omega (arith, entry .pre .1)))
+    (head .inv .stored _ below))
 
 returns : tie.Need-returns Inv-loop μ-loop
 returns c = tallied-all (c .before .loop .inv) (c .loop-test .left)

@@ -2,9 +2,7 @@
 -- the tree.
 use Prim.Native.Nat.{_+_, _-_, _*_, _≤_, _<_}
 use native.Mathlib.Omega.{arith}
-use mathlib.Core.Path.{_≡_, refl, ap, _∙_}
-use borrow.Author.Needs.{needs}
-use lib.ListN.{length, getD}
+use mathlib.Core.Path.{_≡_}
 use Rattle.forest.specs.Arrays.{countFrom, parentIn, labelIn}
 use Rattle.book.specs.Arrays.{cells}
 use Rattle.listing.specs.Output.{Written}
@@ -34,16 +32,22 @@ add-least-labels : tie.Need-add-least-labels Inv-loop μ-loop
 add-least-labels c = omega (arith, c .before .before .before .before .before .before .before .before .pre .0 .width)
 
 least-labels-requires : tie.Need-least-labels-requires Inv-loop μ-loop
-least-labels-requires c κs = (roots-below (c .before .before .before .before .before .before .before .before .pre .0) (c .before .before .before .before .before .roots .ensures), c .before .before .before .before .before .before .before .before .pre .0 .long)
+least-labels-requires c κs =
+    let listable = c .before .before .before .before .before .before .before .before .pre .0 in
+    (roots-below listable (c .before .before .before .before .before .roots .ensures), listable .long)
 
 loop-holds : tie.Need-loop-holds Inv-loop μ-loop
 unfolding countFrom treeLines
-loop-holds c = (omega arith, omega arith, written-none _ _ (omega (arith, c .before .before .before .before .before .before .before .before .before .pre .1)))
+loop-holds c =
+    let room = c .before .before .before .before .before .before .before .before .before .pre .1 in
+    (omega arith, omega arith, written-none _ _ (omega arith))
 
 -- what the passes gave
 told : (c : tie.At-loop Inv-loop μ-loop)
     → (let args = c .before .before .before .before .before .before .before .before .before .before .args in
-    Told (args .n) (args .parent .now) (args .label .now) (c .before .before .before .before .before .before .before .roots .result) (c .before .before .before .before .before .smallest-cells .result) (c .before .before .before .cell-counts .result) (c .before .least-labels .result))
+    Told (args .n) (args .parent .now) (args .label .now) (c .before .before .before .before .before .before .before .roots .result)
+    (c .before .before .before .before .before .smallest-cells .result) (c .before .before .before .cell-counts .result)
+    (c .before .least-labels .result))
 told c =
     record {
       listable = c .before .before .before .before .before .before .before .before .before .before .pre .0;
@@ -53,7 +57,8 @@ told c =
       leasts-are = c .before .least-labels .ensures;
     }
 
-root-in : (c : tie.In-loop Inv-loop μ-loop) → rootIn (c .before .before .before .before .before .before .before .before .roots .result) (c .before .loop .cell) < cells
+root-in : (c : tie.In-loop Inv-loop μ-loop)
+    → rootIn (c .before .before .before .before .before .before .before .before .roots .result) (c .before .loop .cell) < cells
 root-in c = roots-below (told (c .before) .listable) (told (c .before) .roots-are) (c .before .loop .cell)
 
 cast-r : tie.Need-cast-r Inv-loop μ-loop

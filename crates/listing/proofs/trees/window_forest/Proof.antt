@@ -21,7 +21,8 @@ fresh-labels-requires c κs = search needs
 
 gathered : (c : tie.After-gather)
     → (let args = c .before .before .before .before .before .args in
-    Gathers (args .book) (args .log .now) (c .gather .result) (c .gather .last .1 .1 .0) (c .gather .last .1 .1 .1 .0) (c .gather .last .1 .1 .1 .1 .0))
+    Gathers (args .book) (args .log .now) (c .gather .result)
+    (c .gather .last .1 .1 .0) (c .gather .last .1 .1 .1 .0) (c .gather .last .1 .1 .1 .1 .0))
 gathered c = gathers _ _ (c .before .before .before .before .before .pre) refl refl refl (c .gather .ensures)
 
 slice-aggregate-grow : tie.Need-slice-aggregate-grow
@@ -42,7 +43,9 @@ returns : tie.Need-returns
 returns c =
     let arrays = c .before .before .before .before .before .before .before in
     let g = gathered (arrays .before .before .before) in
-    forest-made _ _ (arrays .before .before .fresh-parents .ensures) (arrays .before .fresh-sizes .ensures) (arrays .fresh-labels .ensures) (g .links) (g .many) (c .grow .ensures)
+    forest-made _ _
+    (arrays .before .before .fresh-parents .ensures) (arrays .before .fresh-sizes .ensures) (arrays .fresh-labels .ensures)
+    (g .links) (g .many) (c .grow .ensures)
 
 pub window-forest-spec : {M : Type 1} → statement M
 window-forest-spec =
