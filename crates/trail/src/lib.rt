@@ -9,7 +9,7 @@ mod descent; // descent.rt: the best trail, from the first cell down
 use book::Book;
 ghost use Rattle.trail.specs.Chain.{chainOf, GivesChain};
 
-// the chain
+// What the chain call gives; with a number that is not 0 all else is 0.
 #[repr(C)]
 pub struct ChainAnswer {
     // L, the newest slide from which on links chain the two
