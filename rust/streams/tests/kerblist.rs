@@ -52,7 +52,16 @@ fn kerblist_prints_what_the_oracle_prints() {
         *seen.entry(kind(&text)).or_insert(0) += 1;
     }
     println!("{} files: {:?}", files.len(), seen);
-    for wanted in ["listed", "refused 2", "refused 9", "refused 10", "refused 11", "refused 12", "refused 3", "refused 4"] {
+    for wanted in [
+        "listed",
+        "refused 2",
+        "refused 9",
+        "refused 10",
+        "refused 11",
+        "refused 12",
+        "refused 3",
+        "refused 4",
+    ] {
         assert!(seen.contains_key(wanted), "no file was {}", wanted);
     }
 }
