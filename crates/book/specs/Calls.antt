@@ -1,27 +1,26 @@
--- What each call gives, for every book, log and argument (document 01, "Numbers a call can give"). Each call is one total
--- number, the first check that fails in the order of the table; its effects follow where that is 0, and a refusal changes nothing.
+-- What opening, link and clock give, for every book, log and argument (document 01, "Numbers a call can give"). Each call is
+-- one total number, the first check that fails in the order of the table; its effects follow where that is 0, and a refusal
+-- changes nothing.
 use Prim.Native.Nat.{ℕ, zero, suc, _+_, _≤_, _<_}
 use mathlib.Core.Path.{_≡_}
-use mathlib.Core.Bool.{Bool, true, false, cond, _&&_, _||_}
+use mathlib.Core.Bool.{Bool}
 use mathlib.Core.List.{List, [], _∷_, _++_}
-use lib.Dec.{eqb, ltb}
+use lib.Dec.{ltb}
 use lib.ListN.{length, getD, set, drop, replicate}
-use Rattle.graph.specs.Link.{Link, chains}
-use Rattle.graph.specs.Forest.{climb}
 use Rattle.settings.specs.Settings.{takenNumber}
 use Rattle.settings.specs.declared.Settings.{Settings}
 use Rattle.cells.specs.Cell.{lorryCell}
 use Rattle.slides.specs.Clock.{notBefore, slideOf, openSlide, chunkOf, placeOf, started}
 use Rattle.slides.specs.declared.Clock.{Clock}
-use Rattle.forest.specs.Arrays.{parentIn, parentAtIn, hangOf, hungParents, hungSizes}
+use Rattle.forest.specs.Arrays.{hangOf, hungParents, hungSizes}
 use Rattle.forest.specs.declared.Hang.{Hang}
-use Rattle.book.specs.declared.Book.{Book}
+use Rattle.state.specs.declared.Book.{Book}
+use Rattle.state.specs.Arrays.{most}
+use Rattle.state.specs.Numbers.{firstOf, unless, has, logPlaces, areCells}
+use Rattle.state.specs.Log.{halfOf, spotOf, startOf, stored}
+use Rattle.state.specs.Order.{inOrder}
+use Rattle.chunks.specs.Time.{emptied, movedBook}
 use Rattle.book.specs.declared.Answer.{Answer}
-use Rattle.book.specs.declared.JoinedAnswer.{JoinedAnswer}
-use Rattle.book.specs.Arrays.{cells, most}
-use Rattle.book.specs.Log.{halfOf, spotOf, startOf}
-use Rattle.book.specs.Order.{inOrder}
-use Rattle.book.specs.Time.{emptied, movedBook}
 
 -- the book and its log together are the state; what a call makes of it, and the number that it gives
 pub record Outcome : Type 0 where
@@ -33,30 +32,6 @@ pub record Outcome : Type 0 where
 pub record Gives (o : Outcome) (answer : Answer) (log : List ℕ) : Type 0 where
   pub answered : answer ≡ record { book = o .book; number = o .number }
   pub logged : log ≡ o .log
-
--- the first number that is not 0
-unfoldable pub firstOf : List ℕ → ℕ
-firstOf [] = 0
-firstOf (zero ∷ ks) = firstOf ks
-firstOf (suc k ∷ ks) = suc k
-
--- the number, unless the check is passed
-abbrev pub unless : Bool → ℕ → ℕ
-unless passed number = cond passed 0 number
-
--- at least so many places
-unfoldable pub has : ℕ → List ℕ → Bool
-has zero l = true
-has (suc n) [] = false
-has (suc n) (x ∷ l) = has n l
-
--- the log's places, at least
-abbrev pub logPlaces : ℕ
-logPlaces = 16384
-
--- both are cells
-abbrev pub areCells : ℕ → ℕ → Bool
-areCells one other = ltb one cells && ltb other cells
 
 -- ---- opening: 2, 6
 
@@ -72,15 +47,6 @@ unfoldable pub openingOf : Book → List ℕ → Settings → Outcome
 openingOf b log s = openingBy (openingNumber s log) b log s
 
 -- ---- link: 1, 6, 3, 4, 5
-
--- how many links the slide holds already: none, unless it is of the open chunk
-abbrev pub storedIn : Clock → List ℕ → ℕ → ℕ
-storedIn clock counts slide =
-    let chunk : ℕ = chunkOf clock slide in
-    cond (eqb chunk (chunkOf clock (openSlide clock))) (getD counts (spotOf (halfOf chunk) (placeOf clock slide)) 0) 0
-
-unfoldable pub stored : Book → ℕ → ℕ
-stored b slide = storedIn (b .clock) (b .counts) slide
 
 -- for a book in order or not, with this clock, that holds so many links in the link's slide
 abbrev pub linkNumberIn : Bool → Clock → ℕ → List ℕ → ℕ → ℕ → ℕ → ℕ
@@ -154,61 +120,3 @@ clockBy (suc k) b log tick = record { book = b; log = log; number = suc k }
 
 unfoldable pub clockOf : Book → List ℕ → ℕ → Outcome
 clockOf b log tick = clockBy (clockNumber b log tick) b log tick
-
--- ---- joined: 1, 3
-
--- the cut of the backward forest: places r + 1 to n - 1 are in the window, r being the open slide's place
-abbrev pub cutOf : Book → ℕ
-cutOf b = placeOf (b .clock) (openSlide (b .clock)) + 1
-
--- the parent steps of a forest, as links: cell i's is the first entry
-unfoldable pub forwardSteps : ℕ → List ℕ → List Link
-forwardSteps i [] = []
-forwardSteps i (p ∷ ps) =
-    let rest : List Link = forwardSteps (suc i) ps in
-    cond (eqb p i) rest (record { one = i; other = p } ∷ rest)
-
--- those of the backward forest at a cut
-unfoldable pub backwardSteps : ℕ → ℕ → List ℕ → List ℕ → List Link
-backwardSteps cut i [] ls = []
-backwardSteps cut i (p ∷ ps) [] = []
-backwardSteps cut i (p ∷ ps) (l ∷ ls) =
-    let rest : List Link = backwardSteps cut (suc i) ps ls in
-    cond (eqb p i || ltb l cut) rest (record { one = i; other = p } ∷ rest)
-
--- the parent steps that joined goes by: by the parents and labels of the backward forest at the cut, and the forward parents
-abbrev pub stepLinksOf : ℕ → List ℕ → List ℕ → List ℕ → List Link
-stepLinksOf cut backward labels forward = backwardSteps cut 0 backward labels ++ forwardSteps 0 forward
-
-unfoldable pub stepLinks : Book → List Link
-stepLinks b = stepLinksOf (cutOf b) (b .«backward_parent») (b .«backward_label») (b .«forward_parent»)
-
--- the sum of four walks, always all four
-abbrev pub fourWalksOf : ℕ → List ℕ → List ℕ → List ℕ → ℕ → ℕ → ℕ
-fourWalksOf cut backward labels forward one other =
-    climb (parentAtIn backward labels cut) most one .steps
-    + climb (parentAtIn backward labels cut) most other .steps
-    + climb (parentIn forward) most one .steps
-    + climb (parentIn forward) most other .steps
-
-unfoldable pub fourWalks : Book → ℕ → ℕ → ℕ
-fourWalks b one other = fourWalksOf (cutOf b) (b .«backward_parent») (b .«backward_label») (b .«forward_parent») one other
-
--- the answer for two cells
-abbrev pub answerOf : ℕ → List ℕ → List ℕ → List ℕ → ℕ → ℕ → JoinedAnswer
-answerOf cut backward labels forward one other =
-    record {
-      number = 0;
-      yes = chains (stepLinksOf cut backward labels forward) one other;
-      steps = fourWalksOf cut backward labels forward one other;
-    }
-
-unfoldable pub joinedNumber : Book → ℕ → ℕ → ℕ
-joinedNumber b one other = firstOf (unless (inOrder b) 1 ∷ unless (areCells one other) 3 ∷ [])
-
-unfoldable pub joinedBy : ℕ → Book → ℕ → ℕ → JoinedAnswer
-joinedBy zero b one other = record { number = 0; yes = chains (stepLinks b) one other; steps = fourWalks b one other }
-joinedBy (suc k) b one other = record { number = suc k; yes = false; steps = 0 }
-
-unfoldable pub joinedOf : Book → ℕ → ℕ → JoinedAnswer
-joinedOf b one other = joinedBy (joinedNumber b one other) b one other

@@ -1,66 +1,18 @@
-// The book of links for one lidar unit, and its log: opening, link, clock and joined.
-pub mod joined; // joined.rt: the joined call
+// The calls that change the book of links and its log: opening, link and clock. Each asks for its number first; where that
+// is 0 its effects follow, and else nothing changes.
 mod numbers; // numbers.rt: the number of each call, the first check that fails
-pub mod order; // order.rt: number 1, whether a book's fields are in their ranges and its walks within their steps
-pub mod spots; // spots.rt: where the links of a slide are counted and logged
-mod time; // time.rt: the step of time, and the forests that it makes
 
 use settings::Settings;
-ghost use mathlib.Core.Path.{_≡_};
-ghost use Rattle.book.specs.Order.{neverOpened};
+use state::Book;
+use state::order;
+use state::spots;
 ghost use Rattle.book.specs.Calls.{Gives, Room, openingOf, linkOf, linkStored, clockOf};
-
-// The settings and the latest time, the links stored in each place of the last two chunks, and the two forests.
-#[repr(C)]
-pub struct Book {
-    // forward forest of the open chunk
-    pub forward_parent: [u16; 1024],
-    pub forward_size: [u16; 1024],
-    // backward forest of the chunk before
-    pub backward_parent: [u16; 1024],
-    pub backward_size: [u16; 1024],
-    // links stored, at half * 16 + place; half = chunk mod 2
-    pub counts: [u16; 32],
-    pub clock: slides::Clock,
-    pub backward_label: [u8; 1024],
-    pub mounting: u8,
-}
 
 // What opening, link and clock give: the book, and the number of the table.
 #[repr(C)]
 pub struct Answer {
     pub book: Book,
     pub number: u8,
-}
-
-// What joined gives.
-#[repr(C)]
-pub struct JoinedAnswer {
-    pub number: u8,
-    pub yes: bool,
-    pub steps: u8,
-}
-
-// A book that was never opened: every call but opening gives 1 for it.
-pub fn never_opened() -> Book
-    ensures { λ r. ⌜ r ≡ neverOpened ⌝ }
-{
-    let clock = slides::Clock {
-        t0: 0,
-        b: 0,
-        time: 0,
-        n: 0,
-    };
-    Book {
-        forward_parent: [0; 1024],
-        forward_size: [0; 1024],
-        backward_parent: [0; 1024],
-        backward_size: [0; 1024],
-        counts: [0; 32],
-        clock,
-        backward_label: [0; 1024],
-        mounting: 0,
-    }
 }
 
 // A fresh history, whatever the book was.
@@ -73,7 +25,7 @@ pub fn opening(book: Book, log: &mut [u16], s: Settings) -> Answer
     }
     spots::clear(log, 16384);
     let clock = slides::start(s);
-    let fresh = time::fresh_book(clock, s.mounting);
+    let fresh = chunks::fresh_book(clock, s.mounting);
     Answer {
         book: fresh,
         number: 0,
@@ -101,7 +53,7 @@ pub fn link(book: Book, log: &mut [u16], tick: u32, one: u16, other: u16) -> Ans
     }
     let first = cells::lorry_cell(book.mounting, one);
     let second = cells::lorry_cell(book.mounting, other);
-    let moved = time::moved_to(book, log, tick);
+    let moved = chunks::moved_to(book, log, tick);
     store(moved, log, first, second)
 }
 
@@ -145,7 +97,7 @@ pub fn clock(book: Book, log: &[u16], tick: u32) -> Answer
     if number != 0 {
         return Answer { book, number };
     }
-    let moved = time::moved_to(book, log, tick);
+    let moved = chunks::moved_to(book, log, tick);
     Answer {
         book: moved,
         number: 0,

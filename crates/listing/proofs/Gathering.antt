@@ -8,9 +8,9 @@ use lib.ListN.{length}
 use lib.Seq.{length-sets}
 use Rattle.forest.specs.Arrays.{freshParents, freshSizes, freshLabels}
 use Rattle.graph.specs.Forest.{Labelled}
-use Rattle.book.specs.declared.Book.{Book}
-use Rattle.book.specs.Arrays.{cells, arraysOf, unitedAll}
-use Rattle.book.specs.Log.{Readable}
+use Rattle.state.specs.declared.Book.{Book}
+use Rattle.state.specs.Arrays.{cells, arraysOf, unitedAll}
+use Rattle.state.specs.Log.{Readable}
 use Rattle.window.specs.Window.{windowLinks}
 use Rattle.window.specs.Gathered.{onesOf, othersOf, labelsOf, Put, linksIn}
 use Rattle.window.proofs.Gathered.{put-read}

@@ -20,7 +20,7 @@ use Rattle.graph.proofs.Chains.{true-chains, false-chains, chained-sym}
 use Rattle.graph.proofs.Forests.{same-root, walk-agree, doubling, size-positive, parent-below}
 use Rattle.graph.proofs.Cut.{each-map, all-at-least, same-root-at}
 use Rattle.forest.specs.Arrays.{countFrom}
-use Rattle.book.specs.Arrays.{cells, most}
+use Rattle.state.specs.Arrays.{cells, most}
 use Rattle.window.specs.Window.{linksFrom}
 use Rattle.listing.specs.Groups.{groupOf, holdOf, leastHold, groupLines}
 use Rattle.listing.specs.Trees.{treeOf, leastLabel, treeLine, treeLines}

@@ -10,10 +10,10 @@ use Rattle.graph.specs.Forest.{Labelled, Each, forestOf}
 use Rattle.graph.proofs.Forests.{parent-below}
 use Rattle.graph.proofs.Cut.{each-map, label-of-step}
 use Rattle.forest.specs.Arrays.{parentIn, labelIn}
-use Rattle.book.specs.declared.Book.{Book}
-use Rattle.book.specs.Arrays.{most}
-use Rattle.book.specs.Log.{Readable}
-use Rattle.book.proofs.Built.{each-reverse, Holds, holds-all}
+use Rattle.state.specs.declared.Book.{Book}
+use Rattle.state.specs.Arrays.{most}
+use Rattle.state.specs.Log.{Readable}
+use Rattle.state.proofs.Built.{each-reverse, Holds, holds-all}
 use Rattle.window.specs.Window.{windowLinks}
 use Rattle.window.proofs.Falling.{falls-reverse}
 use Rattle.window.proofs.WindowLinks.{window-ends, window-labels, window-falls}

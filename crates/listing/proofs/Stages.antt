@@ -10,10 +10,11 @@ use lib.ListN.{length, drop, replicate, length-append}
 use Rattle.linkfile.specs.Format.{ending, readNumber, readAnswer, readOf}
 use Rattle.linkfile.specs.declared.Reading.{Reading}
 use Rattle.linkfile.proofs.Laws as linkfile
-use Rattle.book.specs.declared.Book.{Book}
+use Rattle.state.specs.declared.Book.{Book}
 use Rattle.book.specs.declared.Answer.{Answer}
-use Rattle.book.specs.Order.{neverOpened}
-use Rattle.book.specs.Calls.{Outcome, Gives, openingOf, logPlaces}
+use Rattle.state.specs.Order.{neverOpened}
+use Rattle.state.specs.Numbers.{logPlaces}
+use Rattle.book.specs.Calls.{Outcome, Gives, openingOf}
 use Rattle.listing.specs.declared.Listed.{Listed}
 use Rattle.listing.specs.declared.Played.{Played}
 use Rattle.listing.specs.Text.{refusedFile, refusedRecord}

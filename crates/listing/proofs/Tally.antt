@@ -12,7 +12,7 @@ use lib.ListN.{length, getD, set, length-set}
 use lib.Seq.{getD-set-same, getD-set-other, ext-getD}
 use Rattle.forest.specs.Arrays.{countFrom}
 use Rattle.forest.proofs.Fill.{length-each, getD-each, length-countFrom}
-use Rattle.book.specs.Arrays.{cells}
+use Rattle.state.specs.Arrays.{cells}
 use Rattle.listing.specs.Groups.{those}
 use Rattle.listing.specs.Trees.{treeOf, ofTrees}
 use Rattle.listing.proofs.Cells.{those-short}

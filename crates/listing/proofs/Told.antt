@@ -15,7 +15,7 @@ use Rattle.graph.specs.Forest.{climb}
 use Rattle.forest.specs.Arrays.{countFrom, parentIn, labelIn, rootsOf}
 use Rattle.forest.proofs.Fill.{length-each, getD-each}
 use Rattle.forest.proofs.Held.{root-below}
-use Rattle.book.specs.Arrays.{cells, most}
+use Rattle.state.specs.Arrays.{cells, most}
 use Rattle.listing.specs.Groups.{smallest, groupLineIf}
 use Rattle.listing.specs.Trees.{rootIn, Roots, treeOf, ofTrees, leastLabel, treeLine, treeLines, Listable}
 use Rattle.listing.proofs.Cells.{count-more, those-agree}

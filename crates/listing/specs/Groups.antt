@@ -8,7 +8,7 @@ use lib.ListN.{length}
 use Rattle.graph.specs.Link.{chains}
 use Rattle.graph.specs.Forest.{Labelled}
 use Rattle.forest.specs.Arrays.{countFrom}
-use Rattle.book.specs.Arrays.{cells}
+use Rattle.state.specs.Arrays.{cells}
 use Rattle.window.specs.Window.{linksFrom, highest}
 use Rattle.listing.specs.Text.{line, groupWord}
 

@@ -10,10 +10,11 @@ use Rattle.slides.specs.declared.Clock.{Clock}
 use Rattle.forest.specs.Arrays.{countFrom}
 use Rattle.linkfile.specs.Format.{readOf}
 use Rattle.linkfile.specs.declared.Reading.{Reading}
-use Rattle.book.specs.declared.Book.{Book}
-use Rattle.book.specs.Arrays.{cells}
-use Rattle.book.specs.Order.{neverOpened}
-use Rattle.book.specs.Calls.{Outcome, openingOf, logPlaces}
+use Rattle.state.specs.declared.Book.{Book}
+use Rattle.state.specs.Arrays.{cells}
+use Rattle.state.specs.Order.{neverOpened}
+use Rattle.state.specs.Numbers.{logPlaces}
+use Rattle.book.specs.Calls.{Outcome, openingOf}
 use Rattle.window.specs.Window.{windowLinks}
 use Rattle.listing.specs.declared.Listed.{Listed}
 use Rattle.listing.specs.Text.{line, windowWord, linksWord, refusedFile, refusedRecord}

@@ -8,8 +8,8 @@ use lib.Dec.{eqb}
 use lib.ListN.{length, getD}
 use Rattle.graph.specs.Forest.{climb}
 use Rattle.forest.specs.Arrays.{countFrom, parentIn, labelIn}
-use Rattle.book.specs.Arrays.{Arrays, cells, most, freshArrays, unitedAll}
-use Rattle.book.specs.declared.Book.{Book}
+use Rattle.state.specs.Arrays.{Arrays, cells, most, freshArrays, unitedAll}
+use Rattle.state.specs.declared.Book.{Book}
 use Rattle.window.specs.Window.{windowLinks}
 use Rattle.listing.specs.declared.trees.WindowForest.{WindowForest}
 use Rattle.listing.specs.Groups.{those, leads, groupLineIf}

@@ -1,15 +1,15 @@
 // The groups of a window, read off the forest of its links: a group is a tree, and its least hold the smallest label of a parent
 // step in it, less 1. Each pass goes from the last cell to the first and stores at the cell's root.
 use super::text;
-use book::Book;
+use state::Book;
 ghost use mathlib.Core.Path.{_≡_};
 ghost use mathlib.Core.Bool.{_&&_};
 ghost use Prim.Native.Nat.{_+_, _-_, _≤_, _<_};
 ghost use lib.Dec.{eqb, ltb};
 ghost use lib.ListN.{length};
 ghost use Rattle.forest.specs.Arrays.{countFrom, parentIn, labelIn};
-ghost use Rattle.book.specs.Arrays.{cells};
-ghost use Rattle.book.specs.Log.{Readable};
+ghost use Rattle.state.specs.Arrays.{cells};
+ghost use Rattle.state.specs.Log.{Readable};
 ghost use Rattle.listing.specs.Output.{Written};
 ghost use Rattle.listing.specs.Groups.{smallest, groupLineIf};
 ghost use Rattle.listing.specs.Trees.{Roots, rootIn, ofTrees, lower, leastLabel, treeLines, Listable, windowForestOf};

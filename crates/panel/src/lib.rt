@@ -2,16 +2,17 @@
 // then a length. Every call promises what its definition says, for every input. The book goes in and comes out by value;
 // include/kerb.h and rust/kerb have the same calls over a book that stays where it is.
 use book::Answer;
-use book::Book;
-use book::JoinedAnswer;
+use joined::JoinedAnswer;
 use linkfile::Reading;
 use listing::Listed;
 use settings::Settings;
+use state::Book;
 use trail::ChainAnswer;
 ghost use mathlib.Core.Path.{_≡_};
 ghost use lib.ListN.{length};
-ghost use Rattle.book.specs.Order.{neverOpened};
-ghost use Rattle.book.specs.Calls.{Gives, openingOf, linkOf, clockOf, joinedOf};
+ghost use Rattle.state.specs.Order.{neverOpened};
+ghost use Rattle.joined.specs.Joined.{joinedOf};
+ghost use Rattle.book.specs.Calls.{Gives, openingOf, linkOf, clockOf};
 ghost use Rattle.trail.specs.Chain.{chainOf, GivesChain};
 ghost use Rattle.linkfile.specs.Format.{readOf, writeNumber, outputOf};
 ghost use Rattle.listing.specs.Listing.{listingOf, Lists};
@@ -21,7 +22,7 @@ ghost use Rattle.listing.specs.Listing.{listingOf, Lists};
 pub extern "C" fn kerb_value_never_opened() -> Book
     ensures { λ r. ⌜ r ≡ neverOpened ⌝ }
 {
-    book::never_opened()
+    state::never_opened()
 }
 
 // A fresh history, whatever the book was.
@@ -59,7 +60,7 @@ pub extern "C" fn kerb_value_clock(book: Book, log: &[u16], tick: u32) -> Answer
 pub extern "C" fn kerb_value_joined(book: Book, one: u16, other: u16) -> JoinedAnswer
     ensures { λ r. ⌜ r ≡ joinedOf book one other ⌝ }
 {
-    book::joined::joined(book, one, other)
+    joined::joined(book, one, other)
 }
 
 // The chain goes to the front of the buffer.

@@ -25,8 +25,9 @@ use Rattle.graph.proofs.Trails.{best-same, best-relink}
 use Rattle.graph.proofs.Finder.{trailOf-best, best-trailOf}
 use Rattle.graph.proofs.Distinct.{best-few}
 use Rattle.slides.specs.Clock.{notBefore, slideOf}
-use Rattle.book.specs.Arrays.{cells}
-use Rattle.book.specs.Calls.{firstOf, unless, has, areCells, joinedOf}
+use Rattle.state.specs.Arrays.{cells}
+use Rattle.state.specs.Numbers.{firstOf, unless, has, areCells}
+use Rattle.joined.specs.Joined.{joinedOf}
 use Rattle.window.specs.Window.{windowLinks, linksFrom}
 use Rattle.trail.specs.Chain.{ChainOutcome, chainPlaces, labelOf, chainCells, chainNumber, chainBy, chainOf}
 use Rattle.promises.specs.History.{clock, History, clockIn, openSlideIn, windowOf, linksSince, numberIn, added, addedBy}
@@ -35,7 +36,7 @@ use Rattle.promises.specs.Demands.{Handed, Apart, Itself, Answers, Chain
 use Rattle.promises.proofs.Agrees.{Agrees}
 use Rattle.promises.proofs.Lists.{same-test}
 use Rattle.promises.proofs.Numbers.{first-last, first-under}
-use Rattle.book.proofs.Checks.{passes}
+use Rattle.state.proofs.Checks.{passes}
 use Rattle.promises.proofs.NumbersAgree.{itself}
 use Rattle.promises.proofs.InOrder.{agrees-in-order}
 use Rattle.promises.proofs.KeptByTime.{slide-then}

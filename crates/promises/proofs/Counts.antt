@@ -1,4 +1,4 @@
--- The counts when the next chunk begins: those of its half are 0 (the crate book), and every other is as it was, that of the
+-- The counts when the next chunk begins: those of its half are 0 (the crate chunks), and every other is as it was, that of the
 -- chunk before among them.
 use Prim.Native.Nat.{ℕ, _+_, _-_, _*_, _≤_, _<_, zero-le}
 use mathlib.Core.Path.{_≡_, refl, _∙_, ap}
@@ -8,9 +8,9 @@ use native.Mathlib.Omega.{arith}
 use native.Mathlib.Decide.{decLe, decLt}
 use lib.ListN.{length, getD, take, drop, replicate, length-append, length-drop, length-replicate, List·getD-append}
 use lib.Seq.{length-take-le, getD-append-add, getD-take, getD-drop}
-use Rattle.book.specs.Log.{halfOf, spotOf}
-use Rattle.book.specs.Time.{cleared}
-use Rattle.book.proofs.Moves.{cleared-there}
+use Rattle.state.specs.Log.{halfOf, spotOf}
+use Rattle.chunks.specs.Time.{cleared}
+use Rattle.chunks.proofs.Moves.{cleared-there}
 
 -- every other place is as it was
 cleared-rest : (m k i : ℕ) (l : List ℕ) → m + k ≤ length l → (i < m) ⊎ (m + k ≤ i)

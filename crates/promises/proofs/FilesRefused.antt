@@ -7,7 +7,7 @@ use mathlib.Core.Bool.{Bool, true, false}
 use mathlib.Core.List.{List}
 use native.Mathlib.Omega.{arith}
 use Rattle.linkfile.proofs.Files.{refused-read, refused-write}
-use Rattle.book.specs.declared.Book.{Book}
+use Rattle.state.specs.declared.Book.{Book}
 use Rattle.book.specs.Calls.{Outcome}
 use Rattle.listing.specs.Play.{Play, tickAt, oneAt, otherAt, recordGives, playBy, playFrom}
 use Rattle.listing.specs.Listing.{listedIf, listingOf}

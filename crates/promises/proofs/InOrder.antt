@@ -17,13 +17,13 @@ use Rattle.slides.specs.Clock.{started, clockInRange}
 use Rattle.slides.proofs.Slides.{InRange, in-range, started-in-range}
 use Rattle.forest.specs.Arrays.{labelIn, every, within, labelsWithin}
 use Rattle.forest.proofs.Every.{each-every, within-both}
-use Rattle.book.specs.Order.{inOrder, inOrderOf}
+use Rattle.state.specs.Order.{inOrder, inOrderOf}
 use Rattle.promises.specs.History.{Stored, History, clockIn, backwardLinks}
 use Rattle.promises.specs.Panel.{State}
 use Rattle.promises.proofs.Agrees.{Sensible, Agrees}
 use Rattle.promises.proofs.BySlide.{labelBy}
 use Rattle.promises.proofs.Forests.{scanned, each-made, forward-ends, backward-ends}
-use Rattle.book.proofs.Built.{each-reverse, forest-sound}
+use Rattle.state.proofs.Built.{each-reverse, forest-sound}
 
 -- ---- what was taken is in range
 

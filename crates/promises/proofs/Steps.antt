@@ -1,4 +1,4 @@
--- The parent steps of a forest of links chain the cells that the links chain (by the crate book's law on parent steps); and of
+-- The parent steps of a forest of links chain the cells that the links chain (by the crate joined's law on parent steps); and of
 -- the steps of two forests together, either part may be replaced by links that chain the same cells.
 use Prim.Native.Nat.{ℕ, _^_, _≤_}
 use mathlib.Core.Path.{_≡_}
@@ -9,7 +9,7 @@ use Rattle.graph.specs.Forest.{climb, walk, Labelled, forestOf, EndsBelow}
 use Rattle.graph.proofs.Chains.{chained-one, chained-carry, chained-left, chained-right, linked-append-cases}
 use Rattle.graph.proofs.Walks.{climb-way}
 use Rattle.graph.proofs.Forests.{grown, same-root}
-use Rattle.book.proofs.Steps.{Steps, steps-chain}
+use Rattle.joined.proofs.Steps.{Steps, steps-chain}
 
 -- so the steps of a forest of links chain the cells that the links chain
 pub forest-chain : {k most : ℕ} (enough : k ≤ most) {xs : List Labelled} → EndsBelow (2 ^ k) xs → {ls : List Link} → Steps (forestOf most xs .parent) 0 ls →

@@ -12,36 +12,15 @@ use Rattle.graph.specs.Forest.{climb, atLeast}
 use Rattle.cells.specs.Cell.{lorryCellOver}
 use Rattle.slides.specs.Clock.{notBefore, slideOf, placeOf, movedTo, clockInRange}
 use Rattle.forest.specs.Arrays.{countFrom, every}
-use Rattle.book.specs.declared.Book.{Book}
-use Rattle.book.specs.declared.JoinedAnswer.{JoinedAnswer}
-use Rattle.book.specs.Arrays.{united, unitedAll}
-use Rattle.book.specs.Log.{linksFrom, chunkLinks}
-use Rattle.book.specs.Order.{inOrder, inOrderOf}
-use Rattle.book.specs.Time.{cleared, emptied, stayed, backwardOf, turned, movedBy, movedBook}
-use Rattle.book.specs.Calls.{
-  Outcome,
-  firstOf,
-  has,
-  logPlaces,
-  openingNumber,
-  openingBy,
-  openingOf,
-  stored,
-  linkNumber,
-  linkStored,
-  linkBy,
-  linkOf,
-  clockNumber,
-  clockBy,
-  clockOf,
-  forwardSteps,
-  backwardSteps,
-  stepLinks,
-  fourWalks,
-  joinedNumber,
-  joinedBy,
-  joinedOf,
-}
+use Rattle.state.specs.declared.Book.{Book}
+use Rattle.joined.specs.declared.JoinedAnswer.{JoinedAnswer}
+use Rattle.state.specs.Arrays.{united, unitedAll}
+use Rattle.state.specs.Log.{linksFrom, chunkLinks, stored}
+use Rattle.state.specs.Order.{inOrder, inOrderOf}
+use Rattle.chunks.specs.Time.{cleared, emptied, stayed, backwardOf, turned, movedBy, movedBook}
+use Rattle.state.specs.Numbers.{firstOf, has, logPlaces}
+use Rattle.joined.specs.Joined.{forwardSteps, backwardSteps, stepLinks, fourWalks, joinedNumber, joinedBy, joinedOf}
+use Rattle.book.specs.Calls.{Outcome, openingNumber, openingBy, openingOf, linkNumber, linkStored, linkBy, linkOf, clockNumber, clockBy, clockOf}
 use Rattle.window.specs.Window.{linksFromAge, windowLinks, highest}
 use Rattle.trail.specs.Chain.{ChainOutcome, chainPlaces, chainNumber, chainBy, chainOf}
 

@@ -13,10 +13,10 @@ use Rattle.graph.specs.Forest.{Forest, forestOf, walk, walkAt, parentAt}
 use Rattle.settings.specs.Settings.{takenNumber}
 use Rattle.settings.specs.declared.Settings.{Settings}
 use Rattle.slides.specs.Clock.{notBefore, slideOf}
-use Rattle.book.specs.declared.Book.{Book}
-use Rattle.book.specs.declared.JoinedAnswer.{JoinedAnswer}
-use Rattle.book.specs.Arrays.{most}
-use Rattle.book.specs.Calls.{firstOf, unless, has, logPlaces, areCells}
+use Rattle.state.specs.declared.Book.{Book}
+use Rattle.joined.specs.declared.JoinedAnswer.{JoinedAnswer}
+use Rattle.state.specs.Arrays.{most}
+use Rattle.state.specs.Numbers.{firstOf, unless, has, logPlaces, areCells}
 use Rattle.linkfile.specs.Format.{readNumber, readOf, writeNumber, outputOf}
 use Rattle.listing.specs.Play.{Play, playFrom, recordGives}
 use Rattle.listing.specs.Listing.{listingOf}

@@ -34,15 +34,17 @@ use Rattle.listing.specs.declared.Played.{Played}
 use Rattle.listing.specs.declared.Listed.{Listed}
 use Rattle.listing.specs.Play.{Plays, playFrom}
 use Rattle.listing.specs.Listing.{Lists, listingOf}
-use Rattle.book.specs.declared.Book.{Book}
+use Rattle.state.specs.declared.Book.{Book}
 use Rattle.book.specs.declared.Answer.{Answer}
-use Rattle.book.specs.Arrays.{Arrays, unitedAll}
-use Rattle.book.specs.Log.{halfOf, spotOf}
-use Rattle.book.specs.Order.{neverOpened, inOrderOf}
+use Rattle.state.specs.Arrays.{Arrays, unitedAll}
+use Rattle.state.specs.Log.{halfOf, spotOf, storedIn}
+use Rattle.state.specs.Order.{neverOpened, inOrderOf}
 use Rattle.window.specs.Window.{windowLinks}
 use Rattle.window.specs.Gathered.{Put, linksIn}
 use Rattle.window.specs.Agree.{agreeFrom}
-use Rattle.book.specs.Calls.{Gives, storedIn, openingOf, linkOf, clockOf, joinedOf}
+use Rattle.chunks.specs.Time.{emptied, movedBook}
+use Rattle.joined.specs.Joined.{joinedOf}
+use Rattle.book.specs.Calls.{Gives, openingOf, linkOf, clockOf}
 use Rattle.trail.specs.declared.ChainAnswer.{ChainAnswer}
 use Rattle.trail.specs.Chain.{GivesChain, chainOf}
 
@@ -51,16 +53,21 @@ abbrev pub AtMostOne : {A : Type 0} → (A → Type 0) → Type 0
 AtMostOne {A} allowed = (r s : A) → allowed r → allowed s → r ≡ s
 
 pub record Single : Type 0 where
-  -- book
+  -- state
   pub never-opened : AtMostOne (λ r. r ≡ neverOpened)
   pub in-order : (clock : Clock) (mounting : ℕ) (counts fp fs bp bs bl : List ℕ) → AtMostOne (λ r. r ≡ inOrderOf clock mounting counts fp fs bp bs bl)
   pub spot : (clock : Clock) (slide : ℕ) → AtMostOne (λ r. r ≡ spotOf (halfOf (chunkOf clock slide)) (placeOf clock slide))
   pub stored : (clock : Clock) (counts : List ℕ) (slide : ℕ) → AtMostOne (λ r. r ≡ storedIn clock counts slide)
   pub clear : (places : List ℕ) (count : ℕ) → AtMostOne (λ r. r ≡ replicate count 0 ++ drop count places)
+  -- chunks
+  pub fresh-book : (clock : Clock) (mounting : ℕ) → AtMostOne (λ r. r ≡ emptied clock mounting)
+  pub moved-to : (b : Book) (log : List ℕ) (tick : ℕ) → AtMostOne (λ r. r ≡ movedBook b log tick)
+  -- book
   pub opening : (b : Book) (log : List ℕ) (s : Settings) → AtMostOne {A = Answer × List ℕ} (λ r. Gives (openingOf b log s) (r .0) (r .1))
   pub link : (b : Book) (log : List ℕ) (tick one other : ℕ) →
       AtMostOne {A = Answer × List ℕ} (λ r. Gives (linkOf b log tick one other) (r .0) (r .1))
   pub clock : (b : Book) (log : List ℕ) (tick : ℕ) → AtMostOne (λ r. Gives (clockOf b log tick) r log)
+  -- joined
   pub joined : (b : Book) (one other : ℕ) → AtMostOne (λ r. r ≡ joinedOf b one other)
   -- window
   pub gather : (b : Book) (log ones others labels : List ℕ) →

@@ -17,11 +17,11 @@ use Rattle.graph.specs.Forest.{Labelled}
 use Rattle.graph.specs.Trail.{trailOf}
 use Rattle.graph.proofs.Cut.{each-map, all-at-least}
 use Rattle.slides.specs.Clock.{openSlide}
-use Rattle.book.specs.declared.Book.{Book}
-use Rattle.book.specs.Arrays.{cells}
-use Rattle.book.specs.Order.{inOrder}
-use Rattle.book.specs.Calls.{firstOf, unless, has, logPlaces}
-use Rattle.book.proofs.Checks.{passes, fails, last-passes, both-cells, first-no-cell, second-no-cell, has-length, readable}
+use Rattle.state.specs.declared.Book.{Book}
+use Rattle.state.specs.Arrays.{cells}
+use Rattle.state.specs.Order.{inOrder}
+use Rattle.state.specs.Numbers.{firstOf, unless, has, logPlaces}
+use Rattle.state.proofs.Checks.{passes, fails, last-passes, both-cells, first-no-cell, second-no-cell, has-length, readable}
 use Rattle.window.specs.Window.{windowLinks, linksFrom, highest}
 use Rattle.window.specs.Gathered.{onesOf, othersOf, labelsOf, Put, linksIn}
 use Rattle.window.proofs.Gathered.{Fits, Fronts, window-fits, put-fronts, put-read}

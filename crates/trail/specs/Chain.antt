@@ -10,10 +10,10 @@ use lib.Dec.{leb, ltb}
 use lib.ListN.{length, drop}
 use Rattle.graph.specs.Trail.{trailOf}
 use Rattle.slides.specs.Clock.{openSlide}
-use Rattle.book.specs.declared.Book.{Book}
-use Rattle.book.specs.Arrays.{cells}
-use Rattle.book.specs.Order.{inOrder}
-use Rattle.book.specs.Calls.{firstOf, unless, has, logPlaces, areCells}
+use Rattle.state.specs.declared.Book.{Book}
+use Rattle.state.specs.Arrays.{cells}
+use Rattle.state.specs.Order.{inOrder}
+use Rattle.state.specs.Numbers.{firstOf, unless, has, logPlaces, areCells}
 use Rattle.window.specs.Window.{windowLinks, linksFrom, highest}
 use Rattle.trail.specs.declared.ChainAnswer.{ChainAnswer}
 

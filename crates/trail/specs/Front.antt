@@ -6,7 +6,7 @@ use mathlib.Core.List.{List, [], _∷_}
 use lib.Dec.{ltb}
 use lib.ListN.{take}
 use Rattle.graph.specs.Forest.{EndsBelow}
-use Rattle.book.specs.Arrays.{cells}
+use Rattle.state.specs.Arrays.{cells}
 use Rattle.window.specs.Gathered.{linksIn}
 use Rattle.window.specs.Falls.{Falls}
 

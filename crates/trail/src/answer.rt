@@ -1,7 +1,7 @@
 // The answer of the chain call for a book in order, two cells and buffers that are long enough.
 use super::ChainAnswer;
 use super::best::best_trail;
-use book::Book;
+use state::Book;
 ghost use mathlib.Core.Path.{_≡_};
 ghost use Prim.Native.Nat.{suc, _≤_};
 ghost use lib.ListN.{length, take};

@@ -6,7 +6,7 @@ mod lists; // lists.rt: the links of each cell
 mod levels; // levels.rt: how many cells lead on from each cell
 mod descent; // descent.rt: the best trail, from the first cell down
 
-use book::Book;
+use state::Book;
 ghost use Rattle.trail.specs.Chain.{chainOf, GivesChain};
 
 // What the chain call gives; with a number that is not 0 all else is 0.
@@ -25,7 +25,7 @@ pub struct ChainAnswer {
 pub fn chain(book: Book, log: &[u16], one: u16, other: u16, chain: &mut [u16]) -> ChainAnswer
     ensures { λ r. ⌜ GivesChain (chainOf book (now (log .entry)) (now (chain .entry)) one other) r (now (chain .exit)) ⌝ }
 {
-    let ordered = book::order::in_order(
+    let ordered = state::order::in_order(
         book.clock,
         book.mounting,
         &book.counts,

@@ -7,8 +7,8 @@ use native.Mathlib.Omega.{arith}
 use lib.ListN.{getD}
 use Rattle.graph.specs.Forest.{Labelled}
 use Rattle.forest.specs.Arrays.{United}
-use Rattle.book.specs.Arrays.{most, Arrays, arraysOf, united, unitedAll}
-use Rattle.book.specs.Log.{labelled}
+use Rattle.state.specs.Arrays.{most, Arrays, arraysOf, united, unitedAll}
+use Rattle.state.specs.Log.{labelled}
 use Rattle.window.specs.Gathered.{linksOn, linksIn}
 
 -- the first link first

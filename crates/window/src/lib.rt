@@ -2,13 +2,13 @@
 // highest label from which on links chain two cells.
 mod links; // links.rt: the links of a slide into arrays
 
-use book::Book;
+use state::Book;
 ghost use mathlib.Core.Path.{_≡_};
 ghost use mathlib.Core.List.{reverse};
 ghost use Prim.Native.Nat.{_≤_};
 ghost use lib.ListN.{length};
-ghost use Rattle.book.specs.Log.{Readable};
-ghost use Rattle.book.specs.Arrays.{arraysOf, unitedAll};
+ghost use Rattle.state.specs.Log.{Readable};
+ghost use Rattle.state.specs.Arrays.{arraysOf, unitedAll};
 ghost use Rattle.window.specs.Window.{windowLinks};
 ghost use Rattle.window.specs.Gathered.{Put, linksIn};
 ghost use Rattle.window.specs.Agree.{agreeFrom};

@@ -2,7 +2,7 @@
 use mathlib.Core.Path.{_≡_, refl, sym, ap, _∙_}
 use borrow.Author.Needs.{needs}
 use Rattle.book.specs.Calls.{clockNumberIn, clockNumber, clockBy, clockOf}
-use Rattle.book.proofs.Checks.{refused, clock-readable}
+use Rattle.book.proofs.Taken.{refused, clock-readable}
 use Rattle.book.proofs.clock.Statement.{statement}
 use Rattle.book.proofs.clock.Tie as tie
 

@@ -1,11 +1,12 @@
 -- `book::link` meets its contract: a refusal changes nothing, and else the time moves, and there is room for the link where
--- it moves to (proofs/Moves.antt).
+-- it moves to (proofs/Taken.antt).
 use mathlib.Core.Path.{_≡_, refl, sym, ap, _∙_}
 use borrow.Author.Needs.{needs}
-use Rattle.book.specs.Order.{inOrder}
-use Rattle.book.specs.Calls.{stored, storedIn, linkNumberIn, linkNumber, linkBy, linkOf}
-use Rattle.book.proofs.Checks.{refused, Taken, taken, readable}
-use Rattle.book.proofs.Moves.{link-room}
+use Rattle.state.specs.Log.{stored, storedIn}
+use Rattle.state.specs.Order.{inOrder}
+use Rattle.state.proofs.Checks.{readable}
+use Rattle.book.specs.Calls.{linkNumberIn, linkNumber, linkBy, linkOf}
+use Rattle.book.proofs.Taken.{refused, taken, link-room}
 use Rattle.book.proofs.link.Statement.{statement}
 use Rattle.book.proofs.link.Tie as tie
 

@@ -1,9 +1,9 @@
 -- `book::opening` meets its contract: a refusal changes nothing, and else the log is cleared and the book is fresh.
-use mathlib.Core.Path.{_≡_, refl, sym, ap, _∙_}
+use mathlib.Core.Path.{refl, sym, _∙_}
 use native.Mathlib.Omega.{arith}
 use borrow.Author.Needs.{needs}
 use Rattle.book.specs.Calls.{openingOf, openingBy}
-use Rattle.book.proofs.Checks.{refused, opening-room}
+use Rattle.book.proofs.Taken.{refused, opening-room}
 use Rattle.book.proofs.opening.Statement.{statement}
 use Rattle.book.proofs.opening.Tie as tie
 

@@ -1,11 +1,11 @@
 -- `book::store` meets its contract: the spot is the open slide's, and each store is one of the definition's.
 use Prim.Native.Nat.{_<_}
-use mathlib.Core.Path.{_≡_, refl, sym, ap, _∙_}
+use mathlib.Core.Path.{_≡_, ap, _∙_}
 use native.Mathlib.Omega.{arith}
 use borrow.Author.Needs.{needs}
 use lib.ListN.{getD, length-set}
 use Rattle.slides.specs.Clock.{chunkOf, placeOf}
-use Rattle.book.specs.Log.{halfOf, spotOf}
+use Rattle.state.specs.Log.{halfOf, spotOf}
 use Rattle.book.specs.Calls.{openSpot, linkStored}
 use Rattle.book.proofs.store.Statement.{statement}
 use Rattle.book.proofs.store.Tie as tie

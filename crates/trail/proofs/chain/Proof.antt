@@ -3,9 +3,9 @@
 use mathlib.Core.Path.{_≡_, refl, sym, _∙_}
 use mathlib.Core.Bool.{true}
 use borrow.Author.Tests.{le-leb, not-true, not-false}
-use Rattle.book.specs.Order.{inOrder}
-use Rattle.book.specs.Calls.{has, logPlaces}
-use Rattle.book.proofs.Checks.{has-length}
+use Rattle.state.specs.Order.{inOrder}
+use Rattle.state.specs.Numbers.{has, logPlaces}
+use Rattle.state.proofs.Checks.{has-length}
 use Rattle.trail.proofs.ChainCall.{refuses, out-of-order, short-log, short-chain, not-one, not-other}
 use borrow.Author.Needs.{needs}
 use Rattle.trail.proofs.chain.Statement.{statement}

@@ -5,7 +5,7 @@ use native.Mathlib.Omega.{arith}
 use native.Mathlib.Numerals.{add-one}
 use mathlib.Core.Path.{_≡_, refl, ap, _∙_}
 use lib.ListN.{length, getD, getD-replicate}
-use Rattle.book.specs.Arrays.{cells}
+use Rattle.state.specs.Arrays.{cells}
 use Rattle.listing.specs.Trees.{rootIn}
 use Rattle.listing.proofs.Tally.{treeFrom, Tallied, tree-short, tallied-none, tallied-one, tallied-all}
 use Rattle.listing.proofs.trees.cell_counts.Statement.{statement}

@@ -6,7 +6,7 @@ use borrow.Author.Needs.{needs}
 use lib.ListN.{getD-replicate}
 use Rattle.forest.specs.Arrays.{parentIn, labelIn}
 use Rattle.forest.proofs.Fill.{getD-within}
-use Rattle.book.specs.Arrays.{cells}
+use Rattle.state.specs.Arrays.{cells}
 use Rattle.listing.specs.Trees.{rootIn, lower, leastLabel}
 use Rattle.listing.proofs.Tally.{Tallied, tallied-none, tallied-one, tallied-all}
 use Rattle.listing.proofs.trees.least_labels.Statement.{statement}

@@ -4,7 +4,7 @@ use Prim.Native.Nat.{_+_, _-_, _*_, _≤_, _<_}
 use native.Mathlib.Omega.{arith}
 use mathlib.Core.Path.{_≡_}
 use Rattle.forest.specs.Arrays.{countFrom, parentIn, labelIn}
-use Rattle.book.specs.Arrays.{cells}
+use Rattle.state.specs.Arrays.{cells}
 use Rattle.listing.specs.Output.{Written}
 use Rattle.listing.specs.Trees.{rootIn, treeLines}
 use Rattle.listing.proofs.Told.{Told, roots-below, told-line, count-most, least-range, told-short, lines-more}

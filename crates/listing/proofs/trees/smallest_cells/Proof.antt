@@ -3,7 +3,7 @@ use Prim.Native.Nat.{_-_, _<_}
 use native.Mathlib.Omega.{arith}
 use mathlib.Core.Path.{refl}
 use lib.ListN.{getD-replicate}
-use Rattle.book.specs.Arrays.{cells}
+use Rattle.state.specs.Arrays.{cells}
 use Rattle.listing.specs.Groups.{smallest}
 use Rattle.listing.specs.Trees.{rootIn}
 use Rattle.listing.proofs.Tally.{Tallied, tallied-none, tallied-one, tallied-all}

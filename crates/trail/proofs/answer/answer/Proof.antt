@@ -5,7 +5,7 @@ use mathlib.Core.Path.{_≡_, refl}
 use native.Mathlib.Omega.{arith}
 use native.Mathlib.Nat.{pos-of-ne-zero}
 use Rattle.slides.proofs.Slides.{slide-below}
-use Rattle.book.proofs.Checks.{readable}
+use Rattle.state.proofs.Checks.{readable}
 use Rattle.trail.specs.Chain.{labelOf}
 use Rattle.trail.proofs.ChainCall.{unjoined, label-few, too-long, answers, newest-is, gathered, label-is, put-long, room, asked, given}
 use borrow.Author.Needs.{needs}

@@ -4,8 +4,8 @@ use mathlib.Core.Path.{_≡_, sym, _∙_}
 use mathlib.Core.List.{List, reverse}
 use native.Mathlib.Numerals.{add-one}
 use Rattle.graph.specs.Forest.{Labelled}
-use Rattle.book.specs.Arrays.{arraysOf, freshArrays, unitedAll}
-use Rattle.book.proofs.Built.{each-reverse, Holds, holds-all}
+use Rattle.state.specs.Arrays.{arraysOf, freshArrays, unitedAll}
+use Rattle.state.proofs.Built.{each-reverse, Holds, holds-all}
 use Rattle.window.specs.Gathered.{linksIn}
 use Rattle.window.proofs.WindowForest.{agree-highest}
 use borrow.Author.Needs.{needs}

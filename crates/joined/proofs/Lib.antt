@@ -1,0 +1,5 @@
+pub mod Crossing
+pub mod Never
+pub mod Rooted
+pub mod Steps
+pub mod Unlinked

@@ -1,0 +1,4 @@
+pub mod Arrays
+pub mod Log
+pub mod Numbers
+pub mod Order
