@@ -67,7 +67,7 @@ taken b log tick one other e =
     }
 
 -- a link that is taken finds room in the slide that the time has moved to
-pub link-room : (b : Book) (log : List ℕ) (tick one other : ℕ) → linkNumber b log tick one other ≡ 0 → Room (movedBook b log tick) log
+pub link-room : (b : Book) (log : List ℕ) (tick one other : ℕ) → linkNumber b log tick one other ≡ 0 → Room (movedBook b log tick .clock) (movedBook b log tick .counts) log
 link-room b log tick one other e =
     record {
       spot = rw spot-then (omega (arith, place, mod-lt (chunkAfter b tick) (zero-lt-suc 1)));
@@ -84,7 +84,7 @@ link-room b log tick one other e =
     place : placeOf (b .clock) (slideOf (b .clock) tick) < 16
     place = omega (arith, place-below (b .clock) (r .n-least) (slideOf (b .clock) tick), r .n-most)
 
-    spot-then : openSpot (movedBook b log tick) ≡ spotThen b tick
+    spot-then : openSpot (movedBook b log tick .clock) ≡ spotThen b tick
     spot-then = rw (moved-clock b log tick, moved-slide (b .clock) tick (t .later), moved-place (b .clock) tick, moved-n (b .clock) tick)
 
 -- ---- a book that was never opened: every call but opening gives 1 for it

@@ -18,9 +18,10 @@ use Rattle.state.specs.declared.Book.{Book}
 use Rattle.state.specs.Arrays.{most}
 use Rattle.state.specs.Numbers.{firstOf, unless, has, logPlaces, areCells}
 use Rattle.state.specs.Log.{halfOf, spotOf, startOf, stored}
-use Rattle.state.specs.Order.{inOrder}
+use Rattle.state.specs.Order.{bookOf, inOrder}
 use Rattle.chunks.specs.Time.{emptied, movedBook}
 use Rattle.book.specs.declared.Answer.{Answer}
+use Rattle.book.specs.declared.lent.LentAnswer.{LentAnswer}
 
 -- the book and its log together are the state; what a call makes of it, and the number that it gives
 pub record Outcome : Type 0 where
@@ -32,6 +33,11 @@ pub record Outcome : Type 0 where
 pub record Gives (o : Outcome) (answer : Answer) (log : List ℕ) : Type 0 where
   pub answered : answer ≡ record { book = o .book; number = o .number }
   pub logged : log ≡ o .log
+
+-- the same of an answer and the fields of a book that were lent
+abbrev pub GivesLent : Outcome → LentAnswer → List ℕ → List ℕ → List ℕ → List ℕ → List ℕ → List ℕ → List ℕ → Type 0
+GivesLent o answer counts forwardParent forwardSize backwardParent backwardSize backwardLabel log =
+    Gives o (record { book = bookOf (answer .clock) (answer .mounting) counts forwardParent forwardSize backwardParent backwardSize backwardLabel; number = answer .number }) log
 
 -- ---- opening: 2, 6
 
@@ -63,20 +69,19 @@ unfoldable pub linkNumber : Book → List ℕ → ℕ → ℕ → ℕ → ℕ
 linkNumber b log tick one other = linkNumberIn (inOrder b) (b .clock) (stored b (slideOf (b .clock) tick)) log tick one other
 
 -- the spot of the open slide
-abbrev pub openSpot : Book → ℕ
-openSpot b = spotOf (halfOf (chunkOf (b .clock) (openSlide (b .clock)))) (placeOf (b .clock) (openSlide (b .clock)))
+abbrev pub openSpot : Clock → ℕ
+openSpot clock = spotOf (halfOf (chunkOf clock (openSlide clock))) (placeOf clock (openSlide clock))
 
 -- what storing a link needs: the open slide has room for one more, in the counts and in the log
-pub record Room (b : Book) (log : List ℕ) : Type 0 where
-  pub spot : openSpot b < 32
-  pub few : getD (b .counts) (openSpot b) 0 < 256
+pub record Room (clock : Clock) (counts log : List ℕ) : Type 0 where
+  pub spot : openSpot clock < 32
+  pub few : getD counts (openSpot clock) 0 < 256
   pub long : startOf 32 ≤ length log
 
 -- a link of two of the lorry's cells stored in the open slide
 unfoldable pub linkStored : Book → List ℕ → ℕ → ℕ → Outcome
 linkStored b log one other =
-    let slide : ℕ = openSlide (b .clock) in
-    let spot : ℕ = spotOf (halfOf (chunkOf (b .clock) slide)) (placeOf (b .clock) slide) in
+    let spot : ℕ = openSpot (b .clock) in
     let count : ℕ = getD (b .counts) spot 0 in
     let at : ℕ = startOf spot + (count + count) in
     let h : Hang = hangOf (b .«forward_parent») (b .«forward_size») most one other in

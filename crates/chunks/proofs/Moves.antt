@@ -14,7 +14,8 @@ use Rattle.forest.specs.Arrays.{freshParents, freshSizes, freshLabels}
 use Rattle.state.specs.declared.Book.{Book}
 use Rattle.state.specs.Arrays.{cells, Arrays, arraysOf, unitedAll}
 use Rattle.state.specs.Log.{halfOf, spotOf, chunkLinks, stored}
-use Rattle.chunks.specs.Time.{cleared, emptied, stayed, backwardOf, turned, movedBy, movedBook}
+use Rattle.state.specs.Order.{bookOf}
+use Rattle.chunks.specs.Time.{cleared, emptied, Fresh, stayed, backwardOf, turned, movedBy, movedBook}
 
 -- the chunk of the book's time, and that of the tick
 abbrev pub chunkBefore : Book → ℕ
@@ -54,6 +55,12 @@ module _ (b : Book) (log : List ℕ) (tick : ℕ) where
   unfolding stayed turned emptied
   moved-clock = moved-cases (λ m. m .clock ≡ movedTo (b .clock) tick) (λ e. refl) (λ e. refl) (λ e d. refl)
 
+-- ---- further
+
+pub emptied-made : (clock : Clock) (mounting : ℕ) {fp fs bp bs bl : List ℕ} → Fresh fp fs bp bs bl → bookOf clock mounting (replicate 32 0) fp fs bp bs bl ≡ emptied clock mounting
+unfolding emptied
+emptied-made clock mounting f = rw (f .forward-parents, f .forward-sizes, f .backward-parents, f .backward-sizes, f .backward-labels)
+
 -- ---- the next chunk
 
 -- the forest that is built from fresh arrays and the half of the chunk that ends
@@ -68,8 +75,7 @@ other-half e = omega arith
 
 pub turned-made : (b : Book) (log : List ℕ) (clock : Clock) {fp fs counts : List ℕ} {a : Arrays} → fp ≡ freshParents cells → fs ≡ freshSizes cells
     → a ≡ backwardOf b log → counts ≡ cleared (halfOf (chunkBefore b + 1)) (b .counts)
-    → record { «forward_parent» = fp; «forward_size» = fs; «backward_parent» = a .parents; «backward_size» = a .sizes; counts = counts; clock = clock; «backward_label» = a .labels; mounting = b .mounting }
-    ≡ turned b log clock
+    → bookOf clock (b .mounting) counts fp fs (a .parents) (a .sizes) (a .labels) ≡ turned b log clock
 unfolding turned
 turned-made b log clock p s e k = rw (p, s, e, k)
 

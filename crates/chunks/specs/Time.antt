@@ -3,6 +3,7 @@
 -- arrival first, and the forward forest starts fresh. Further: both forests are fresh and nothing is stored.
 use Prim.Native.Nat.{ℕ, _+_, _-_, _*_}
 use mathlib.Core.Bool.{Bool, true, false}
+use mathlib.Core.Path.{_≡_}
 use mathlib.Core.List.{List, _++_}
 use lib.Dec.{eqb}
 use lib.ListN.{take, drop, replicate}
@@ -29,6 +30,14 @@ emptied clock mounting =
       «backward_label» = freshArrays .labels;
       mounting = mounting;
     }
+
+-- both forests are such
+pub record Fresh (forwardParent forwardSize backwardParent backwardSize backwardLabel : List ℕ) : Type 0 where
+  pub forward-parents : forwardParent ≡ freshArrays .parents
+  pub forward-sizes : forwardSize ≡ freshArrays .sizes
+  pub backward-parents : backwardParent ≡ freshArrays .parents
+  pub backward-sizes : backwardSize ≡ freshArrays .sizes
+  pub backward-labels : backwardLabel ≡ freshArrays .labels
 
 -- the book with another clock
 unfoldable pub stayed : Book → Clock → Book

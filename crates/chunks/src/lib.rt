@@ -1,87 +1,77 @@
 // The step of time: within a chunk nothing else changes; into the next chunk the backward forest is built from the chunk
 // that ends; further, nothing is left.
 use slides::Clock;
-use state::Book;
 use state::spots;
 ghost use mathlib.Core.Path.{_≡_};
 ghost use mathlib.Core.List.{map, []};
-ghost use Prim.Native.Nat.{_+_, _-_, _*_, _≤_, _<_};
+ghost use Prim.Native.Nat.{ℕ, _+_, _-_, _*_, _≤_, _<_};
 ghost use lib.ListN.{length};
 ghost use Rattle.state.specs.Arrays.{arraysOf, unitedAll};
 ghost use Rattle.state.specs.Log.{Readable, keep, labelled, linksFrom, chunkLinks};
-ghost use Rattle.chunks.specs.Time.{cleared, emptied, turned, movedBook};
+ghost use Rattle.state.specs.Order.{bookOf};
+ghost use Rattle.chunks.specs.Time.{cleared, Fresh, movedBook};
 
-// A book with this clock and mounting and nothing stored.
-pub fn fresh_book(clock: Clock, mounting: u8) -> Book
-    ensures { λ r. ⌜ r ≡ emptied clock mounting ⌝ }
+// Each cell its own root again, in both forests.
+pub fn freshen(
+    forward_parent: &mut [u16; 1024],
+    forward_size: &mut [u16; 1024],
+    backward_parent: &mut [u16; 1024],
+    backward_size: &mut [u16; 1024],
+    backward_label: &mut [u8; 1024],
+)
+    ensures { λ _. ⌜ Fresh (now («forward_parent» .exit)) (now («forward_size» .exit)) (now («backward_parent» .exit)) (now («backward_size» .exit)) (now («backward_label» .exit)) ⌝ }
 {
-    let parent = forest::fresh_parents();
-    let size = forest::fresh_sizes();
-    let label = forest::fresh_labels();
-    Book {
-        forward_parent: parent,
-        forward_size: size,
-        backward_parent: parent,
-        backward_size: size,
-        counts: [0; 32],
-        clock,
-        backward_label: label,
-        mounting,
-    }
+    *forward_parent = forest::fresh_parents();
+    *forward_size = forest::fresh_sizes();
+    *backward_parent = forest::fresh_parents();
+    *backward_size = forest::fresh_sizes();
+    *backward_label = forest::fresh_labels();
 }
 
-// The book when its time has moved to the tick. Time moves nowhere else.
-pub fn moved_to(book: Book, log: &[u16], tick: u32) -> Book
-    requires { ⌜ Readable (book .clock .n) (book .counts) (now log) ⌝ }
-    ensures { λ r. ⌜ r ≡ movedBook book (now (log .entry)) tick ⌝ }
+// The book of these fields when its time has moved to the tick; gives its clock then. Time moves nowhere else.
+pub fn move_to(
+    clock: Clock,
+    counts: &mut [u16; 32],
+    forward_parent: &mut [u16; 1024],
+    forward_size: &mut [u16; 1024],
+    backward_parent: &mut [u16; 1024],
+    backward_size: &mut [u16; 1024],
+    backward_label: &mut [u8; 1024],
+    log: &[u16],
+    tick: u32,
+) -> Clock
+    requires { ⌜ Readable (clock .n) (now counts) (now log) ⌝ }
+    ensures { λ r. ⌜ ((mounting : ℕ) → bookOf r mounting (now (counts .exit)) (now («forward_parent» .exit)) (now («forward_size» .exit)) (now («backward_parent» .exit)) (now («backward_size» .exit)) (now («backward_label» .exit)) ≡ movedBook (bookOf clock mounting (now (counts .entry)) (now («forward_parent» .entry)) (now («forward_size» .entry)) (now («backward_parent» .entry)) (now («backward_size» .entry)) (now («backward_label» .entry))) (now (log .entry)) tick) ⌝ }
 {
-    let old = book.clock;
-    let before = slides::chunk(old, slides::open_slide(old));
-    let after = slides::chunk(old, slides::slide(old, tick));
-    let clock = slides::advanced(old, tick);
+    let before = slides::chunk(clock, slides::open_slide(clock));
+    let after = slides::chunk(clock, slides::slide(clock, tick));
+    let moved = slides::advanced(clock, tick);
     if after == before {
-        let mut stayed = book;
-        stayed.clock = clock;
-        return stayed;
+        return moved;
     }
-    if after == before + 1 {
-        return next_chunk(book, log, clock);
-    }
-    fresh_book(clock, book.mounting)
-}
-
-// The book as the next chunk begins.
-fn next_chunk(book: Book, log: &[u16], clock: Clock) -> Book
-    requires { ⌜ Readable (book .clock .n) (book .counts) (now log) ⌝ }
-    ensures { λ r. ⌜ r ≡ turned book (now (log .entry)) clock ⌝ }
-{
-    let old = book.clock;
-    let half = (slides::chunk(old, slides::open_slide(old)) % 2) as usize;
-    let mut parent = forest::fresh_parents();
-    let mut size = forest::fresh_sizes();
-    let mut label = forest::fresh_labels();
-    unite_chunk(
-        &book.counts,
-        log,
-        half,
-        old.n,
-        &mut parent,
-        &mut size,
-        &mut label,
-    );
-    let counts = clear_half(book.counts, 1 - half);
-    let forward_parent = forest::fresh_parents();
-    let forward_size = forest::fresh_sizes();
-    Book {
+    freshen(
         forward_parent,
         forward_size,
-        backward_parent: parent,
-        backward_size: size,
-        counts,
-        clock,
-        backward_label: label,
-        mounting: book.mounting,
+        backward_parent,
+        backward_size,
+        backward_label,
+    );
+    if after != before + 1 {
+        *counts = [0; 32];
+        return moved;
     }
+    let half = (before % 2) as usize;
+    unite_chunk(
+        counts,
+        log,
+        half,
+        clock.n,
+        backward_parent,
+        backward_size,
+        backward_label,
+    );
+    *counts = clear_half(*counts, 1 - half);
+    moved
 }
 
 // The counts with those of one half made 0.

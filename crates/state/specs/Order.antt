@@ -11,6 +11,20 @@ use Rattle.forest.specs.Arrays.{every, within, soundOf, labelsWithin}
 use Rattle.state.specs.declared.Book.{Book}
 use Rattle.state.specs.Arrays.{cells, most}
 
+-- the book of these fields
+abbrev pub bookOf : Clock → ℕ → List ℕ → List ℕ → List ℕ → List ℕ → List ℕ → List ℕ → Book
+bookOf clock mounting counts forwardParent forwardSize backwardParent backwardSize backwardLabel =
+    record {
+      «forward_parent» = forwardParent;
+      «forward_size» = forwardSize;
+      «backward_parent» = backwardParent;
+      «backward_size» = backwardSize;
+      counts = counts;
+      clock = clock;
+      «backward_label» = backwardLabel;
+      mounting = mounting;
+    }
+
 -- the fields one by one: clock, mounting, counts, forward parents and sizes, backward parents, sizes and labels
 unfoldable pub inOrderOf : Clock → ℕ → List ℕ → List ℕ → List ℕ → List ℕ → List ℕ → List ℕ → Bool
 inOrderOf clock mounting counts forwardParent forwardSize backwardParent backwardSize backwardLabel =

@@ -1,29 +1,29 @@
--- `book::store` meets its contract: the spot is the open slide's, and each store is one of the definition's.
+-- `book::lent::store` meets its contract: the spot is the open slide's, and each store is one of the definition's.
 use Prim.Native.Nat.{_<_}
-use mathlib.Core.Path.{_≡_, ap, _∙_}
+use mathlib.Core.Path.{_≡_, refl, sym, ap, _∙_}
 use native.Mathlib.Omega.{arith}
 use borrow.Author.Needs.{needs}
 use lib.ListN.{getD, length-set}
 use Rattle.slides.specs.Clock.{chunkOf, placeOf}
 use Rattle.state.specs.Log.{halfOf, spotOf}
 use Rattle.book.specs.Calls.{openSpot, linkStored}
-use Rattle.book.proofs.store.Statement.{statement}
-use Rattle.book.proofs.store.Tie as tie
+use Rattle.book.proofs.lent.store.Statement.{statement}
+use Rattle.book.proofs.lent.store.Tie as tie
 
 abbrev entry : tie.After-spot → tie.Start
-entry c = c .before .before .before .before
+entry c = c .before .before .before
 
-spot-is : (c : tie.After-spot) → c .spot .result ≡ openSpot (entry c .args .book)
+spot-is : (c : tie.After-spot) → c .spot .result ≡ openSpot (entry c .args .clock)
 spot-is c =
-    let clock = entry c .args .book .clock in
+    let clock = entry c .args .clock in
     c .spot .ensures ∙ ap (λ slide. spotOf (halfOf (chunkOf clock slide)) (placeOf clock slide)) (c .before .open-slide .ensures)
 
 -- there is room
 low : (c : tie.After-spot) → c .spot .result < 32
 low c = rw (spot-is c) (entry c .pre .spot)
 
-few : (c : tie.After-spot) → getD (entry c .args .book .counts) (c .spot .result) 0 < 256
-few c = omega (arith, ap (λ spot. getD (entry c .args .book .counts) spot 0) (spot-is c), entry c .pre .few)
+few : (c : tie.After-spot) → getD (entry c .args .counts .now) (c .spot .result) 0 < 256
+few c = omega (arith, ap (λ spot. getD (entry c .args .counts .now) spot 0) (spot-is c), entry c .pre .few)
 
 open-slide-requires : tie.Need-open-slide-requires
 open-slide-requires c κs = search needs
@@ -41,10 +41,10 @@ mul-at : tie.Need-mul-at
 mul-at c = omega (arith, low (c .before))
 
 cast-at : tie.Need-cast-at
-cast-at c = search needs
+cast-at c = record { fits = omega (arith, few (c .before)) }
 
 cast-at-2 : tie.Need-cast-at-2
-cast-at-2 c = search needs
+cast-at-2 c = record { fits = omega (arith, few (c .before)) }
 
 add-at : tie.Need-add-at
 add-at c = omega (arith, few (c .before))
@@ -67,14 +67,14 @@ mul-log-2 c = omega (arith, low (c .before), few (c .before))
 slice-write-log-2 : tie.Need-slice-write-log-2
 slice-write-log-2 c = simp length-set (omega (arith, low (c .before), few (c .before), entry (c .before) .pre .long))
 
-add-kept : tie.Need-add-kept
-add-kept c = omega (arith, few (c .before))
+add-counts : tie.Need-add-counts
+add-counts c = omega (arith, few (c .before))
 
-mul-kept : tie.Need-mul-kept
-mul-kept c = omega (arith, low (c .before))
+mul-counts : tie.Need-mul-counts
+mul-counts c = omega (arith, low (c .before))
 
-element-write-kept : tie.Need-element-write-kept
-element-write-kept c = omega (arith, low (c .before))
+element-write-counts : tie.Need-element-write-counts
+element-write-counts c = omega (arith, low (c .before))
 
 hang-requires : tie.Need-hang-requires
 hang-requires c κs = search needs
@@ -90,12 +90,9 @@ same-length c = simp length-set
 
 returns : tie.Need-returns
 unfolding linkStored
-returns c =
-    let spot = spot-is (c .before .before .before .before .before .before .before .before .before .before .before) in
-    record {
-      answered = rw (c .hang-size .ensures, c .before .before .hang-parent .ensures, c .before .before .before .before .hang .ensures, spot);
-      logged = rw spot;
-    }
+returns c mounting backwardParent backwardSize backwardLabel =
+    let spot = spot-is (c .before .before .before .before .before .before .before .before .before .before) in
+    rw (c .hang-size .ensures, c .before .before .hang-parent .ensures, c .before .before .before .before .hang .ensures, spot)
 
 pub store-spec : {M : Type 1} → statement M
 store-spec =
@@ -115,9 +112,9 @@ store-spec =
     add-log
     mul-log-2
     slice-write-log-2
-    add-kept
-    mul-kept
-    element-write-kept
+    add-counts
+    mul-counts
+    element-write-counts
     hang-requires
     hang-parent-requires
     hang-size-requires

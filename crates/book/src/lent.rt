@@ -1,0 +1,189 @@
+// Opening, link and clock over the fields of a book, each lent where it stands: no copy of the book is made.
+use super::numbers;
+use settings::Settings;
+use state::order;
+use state::spots;
+ghost use mathlib.Core.Path.{_≡_};
+ghost use mathlib.Core.List.{List};
+ghost use Prim.Native.Nat.{ℕ};
+ghost use Rattle.state.specs.Order.{bookOf};
+ghost use Rattle.book.specs.Calls.{GivesLent, Room, openingOf, linkOf, linkStored, clockOf};
+
+// What a call over lent fields gives: the clock and the mounting after it, and the number of the table.
+#[repr(C)]
+pub struct LentAnswer {
+    pub clock: slides::Clock,
+    pub mounting: u8,
+    pub number: u8,
+}
+
+// A link of two cells of the unit. The time moves first, and only for a link that is taken.
+pub fn link(
+    clock: slides::Clock,
+    mounting: u8,
+    counts: &mut [u16; 32],
+    forward_parent: &mut [u16; 1024],
+    forward_size: &mut [u16; 1024],
+    backward_parent: &mut [u16; 1024],
+    backward_size: &mut [u16; 1024],
+    backward_label: &mut [u8; 1024],
+    log: &mut [u16],
+    tick: u32,
+    one: u16,
+    other: u16,
+) -> LentAnswer
+    ensures { λ r. ⌜ GivesLent (linkOf (bookOf clock mounting (now (counts .entry)) (now («forward_parent» .entry)) (now («forward_size» .entry)) (now («backward_parent» .entry)) (now («backward_size» .entry)) (now («backward_label» .entry))) (now (log .entry)) tick one other) r (now (counts .exit)) (now («forward_parent» .exit)) (now («forward_size» .exit)) (now («backward_parent» .exit)) (now («backward_size» .exit)) (now («backward_label» .exit)) (now (log .exit)) ⌝ }
+{
+    let ordered = order::in_order(
+        clock,
+        mounting,
+        counts,
+        forward_parent,
+        forward_size,
+        backward_parent,
+        backward_size,
+        backward_label,
+    );
+    let held = spots::stored(clock, counts, slides::slide(clock, tick));
+    let number = numbers::link_number(ordered, clock, held, log, tick, one, other);
+    if number != 0 {
+        return LentAnswer {
+            clock,
+            mounting,
+            number,
+        };
+    }
+    let first = cells::lorry_cell(mounting, one);
+    let second = cells::lorry_cell(mounting, other);
+    let moved = chunks::move_to(
+        clock,
+        counts,
+        forward_parent,
+        forward_size,
+        backward_parent,
+        backward_size,
+        backward_label,
+        log,
+        tick,
+    );
+    store(moved, counts, forward_parent, forward_size, log, first, second);
+    LentAnswer {
+        clock: moved,
+        mounting,
+        number: 0,
+    }
+}
+
+// A link of two of the lorry's cells stored in the open slide.
+fn store(
+    clock: slides::Clock,
+    counts: &mut [u16; 32],
+    forward_parent: &mut [u16; 1024],
+    forward_size: &mut [u16; 1024],
+    log: &mut [u16],
+    one: u16,
+    other: u16,
+)
+    requires { ⌜ Room clock (now counts) (now log) ⌝ }
+    ensures { λ _. ⌜ ((mounting : ℕ) (backwardParent backwardSize backwardLabel : List ℕ) → record { book = bookOf clock mounting (now (counts .exit)) (now («forward_parent» .exit)) (now («forward_size» .exit)) backwardParent backwardSize backwardLabel; log = now (log .exit); number = 0 } ≡ linkStored (bookOf clock mounting (now (counts .entry)) (now («forward_parent» .entry)) (now («forward_size» .entry)) backwardParent backwardSize backwardLabel) (now (log .entry)) one other) ⌝ }
+{
+    let spot = spots::spot(clock, slides::open_slide(clock));
+    let count = counts[spot];
+    let at = spot * 512 + (count as usize + count as usize);
+    log[at] = one;
+    log[at + 1] = other;
+    counts[spot] = count + 1;
+    let h = forest::links::hang(forward_parent, forward_size, 10, one, other);
+    forest::links::hang_parent(forward_parent, h);
+    forest::links::hang_size(forward_size, h);
+}
+
+// The time moves to the tick, and nothing is logged.
+pub fn clock(
+    clock: slides::Clock,
+    mounting: u8,
+    counts: &mut [u16; 32],
+    forward_parent: &mut [u16; 1024],
+    forward_size: &mut [u16; 1024],
+    backward_parent: &mut [u16; 1024],
+    backward_size: &mut [u16; 1024],
+    backward_label: &mut [u8; 1024],
+    log: &[u16],
+    tick: u32,
+) -> LentAnswer
+    ensures { λ r. ⌜ GivesLent (clockOf (bookOf clock mounting (now (counts .entry)) (now («forward_parent» .entry)) (now («forward_size» .entry)) (now («backward_parent» .entry)) (now («backward_size» .entry)) (now («backward_label» .entry))) (now (log .entry)) tick) r (now (counts .exit)) (now («forward_parent» .exit)) (now («forward_size» .exit)) (now («backward_parent» .exit)) (now («backward_size» .exit)) (now («backward_label» .exit)) (now (log .entry)) ⌝ }
+{
+    let ordered = order::in_order(
+        clock,
+        mounting,
+        counts,
+        forward_parent,
+        forward_size,
+        backward_parent,
+        backward_size,
+        backward_label,
+    );
+    let number = numbers::clock_number(ordered, clock, log, tick);
+    if number != 0 {
+        return LentAnswer {
+            clock,
+            mounting,
+            number,
+        };
+    }
+    let moved = chunks::move_to(
+        clock,
+        counts,
+        forward_parent,
+        forward_size,
+        backward_parent,
+        backward_size,
+        backward_label,
+        log,
+        tick,
+    );
+    LentAnswer {
+        clock: moved,
+        mounting,
+        number: 0,
+    }
+}
+
+// A fresh history, whatever the book was.
+pub fn opening(
+    clock: slides::Clock,
+    mounting: u8,
+    counts: &mut [u16; 32],
+    forward_parent: &mut [u16; 1024],
+    forward_size: &mut [u16; 1024],
+    backward_parent: &mut [u16; 1024],
+    backward_size: &mut [u16; 1024],
+    backward_label: &mut [u8; 1024],
+    log: &mut [u16],
+    s: Settings,
+) -> LentAnswer
+    ensures { λ r. ⌜ GivesLent (openingOf (bookOf clock mounting (now (counts .entry)) (now («forward_parent» .entry)) (now («forward_size» .entry)) (now («backward_parent» .entry)) (now («backward_size» .entry)) (now («backward_label» .entry))) (now (log .entry)) s) r (now (counts .exit)) (now («forward_parent» .exit)) (now («forward_size» .exit)) (now («backward_parent» .exit)) (now («backward_size» .exit)) (now («backward_label» .exit)) (now (log .exit)) ⌝ }
+{
+    let number = numbers::opening_number(s, log);
+    if number != 0 {
+        return LentAnswer {
+            clock,
+            mounting,
+            number,
+        };
+    }
+    spots::clear(log, 16384);
+    chunks::freshen(
+        forward_parent,
+        forward_size,
+        backward_parent,
+        backward_size,
+        backward_label,
+    );
+    *counts = [0; 32];
+    LentAnswer {
+        clock: slides::start(s),
+        mounting: s.mounting,
+        number: 0,
+    }
+}
