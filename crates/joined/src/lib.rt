@@ -11,6 +11,7 @@ ghost use lib.ListN.{length};
 ghost use Rattle.graph.specs.Link.{chains};
 ghost use Rattle.forest.specs.Arrays.{parentIn, parentAtIn};
 ghost use Rattle.slides.specs.Clock.{placeOf, openSlide};
+ghost use Rattle.state.specs.Order.{bookOf};
 ghost use Rattle.joined.specs.Alone.{apart, aloneIn};
 ghost use Rattle.joined.specs.Askable.{Askable};
 ghost use Rattle.joined.specs.Joined.{stepLinksOf, answerOf, joinedOf};
@@ -27,7 +28,7 @@ pub struct JoinedAnswer {
 pub fn joined(book: Book, one: u16, other: u16) -> JoinedAnswer
     ensures { λ r. ⌜ r ≡ joinedOf book one other ⌝ }
 {
-    let ordered = order::in_order(
+    lent(
         book.clock,
         book.mounting,
         &book.counts,
@@ -36,6 +37,35 @@ pub fn joined(book: Book, one: u16, other: u16) -> JoinedAnswer
         &book.backward_parent,
         &book.backward_size,
         &book.backward_label,
+        one,
+        other,
+    )
+}
+
+// The same over the fields of a book, each lent where it stands: no copy of the book is made.
+pub fn lent<'a>(
+    clock: Clock,
+    mounting: u8,
+    counts: &'a [u16; 32],
+    forward_parent: &'a [u16; 1024],
+    forward_size: &'a [u16; 1024],
+    backward_parent: &'a [u16; 1024],
+    backward_size: &'a [u16; 1024],
+    backward_label: &'a [u8; 1024],
+    one: u16,
+    other: u16,
+) -> JoinedAnswer
+    ensures { λ r. ⌜ r ≡ joinedOf (bookOf clock mounting (now (counts .entry)) (now («forward_parent» .entry)) (now («forward_size» .entry)) (now («backward_parent» .entry)) (now («backward_size» .entry)) (now («backward_label» .entry))) one other ⌝ }
+{
+    let ordered = order::in_order(
+        clock,
+        mounting,
+        counts,
+        forward_parent,
+        forward_size,
+        backward_parent,
+        backward_size,
+        backward_label,
     );
     if !ordered {
         return refused(1);
@@ -46,11 +76,11 @@ pub fn joined(book: Book, one: u16, other: u16) -> JoinedAnswer
     if 1024 <= other {
         return refused(3);
     }
-    let cut = cut(book.clock);
+    let cut = cut(clock);
     answer(
-        &book.backward_parent,
-        &book.backward_label,
-        &book.forward_parent,
+        backward_parent,
+        backward_label,
+        forward_parent,
         cut,
         one,
         other,
