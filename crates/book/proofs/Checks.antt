@@ -13,8 +13,8 @@ use Rattle.settings.specs.Settings.{heldInRange}
 use Rattle.settings.specs.declared.Settings.{Settings}
 use Rattle.slides.specs.Clock.{notBefore, slideOf, clockInRange}
 use Rattle.slides.proofs.Slides.{InRange, in-range}
-use Rattle.forest.specs.Arrays.{every, within, soundOf, labelsWithin}
-use Rattle.forest.proofs.Every.{every-each, within-high}
+use Rattle.soundness.specs.Sound.{every, within, soundOf, labelsWithin}
+use Rattle.soundness.proofs.Every.{every-each, within-high}
 use Rattle.book.specs.declared.Book.{Book}
 use Rattle.book.specs.Arrays.{cells, most}
 use Rattle.book.specs.Log.{Readable}

@@ -13,8 +13,9 @@ use Rattle.settings.specs.declared.Settings.{Settings}
 use Rattle.cells.specs.Cell.{lorryCell}
 use Rattle.slides.specs.Clock.{notBefore, slideOf, openSlide, chunkOf, placeOf, started}
 use Rattle.slides.specs.declared.Clock.{Clock}
-use Rattle.forest.specs.Arrays.{parentIn, parentAtIn, hangOf, hungParents, hungSizes}
-use Rattle.forest.specs.declared.Hang.{Hang}
+use Rattle.forest.specs.Arrays.{parentIn, parentAtIn}
+use Rattle.uniting.specs.United.{hangOf, hungParents, hungSizes}
+use Rattle.uniting.specs.declared.Hang.{Hang}
 use Rattle.book.specs.declared.Book.{Book}
 use Rattle.book.specs.declared.Answer.{Answer}
 use Rattle.book.specs.declared.JoinedAnswer.{JoinedAnswer}

@@ -118,9 +118,9 @@ fn store(book: Book, log: &mut [u16], one: u16, other: u16) -> Answer
     log[at] = one;
     log[at + 1] = other;
     kept.counts[spot] = count + 1;
-    let h = forest::links::hang(&kept.forward_parent, &kept.forward_size, 10, one, other);
-    forest::links::hang_parent(&mut kept.forward_parent, h);
-    forest::links::hang_size(&mut kept.forward_size, h);
+    let h = uniting::roots::hang(&kept.forward_parent, &kept.forward_size, 10, one, other);
+    uniting::hang_parent(&mut kept.forward_parent, h);
+    uniting::hang_size(&mut kept.forward_size, h);
     Answer {
         book: kept,
         number: 0,

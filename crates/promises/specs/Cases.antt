@@ -11,7 +11,8 @@ use Rattle.graph.specs.Trail.{trailOf}
 use Rattle.graph.specs.Forest.{climb, atLeast}
 use Rattle.cells.specs.Cell.{lorryCellOver}
 use Rattle.slides.specs.Clock.{notBefore, slideOf, placeOf, movedTo, clockInRange}
-use Rattle.forest.specs.Arrays.{countFrom, every}
+use Rattle.forest.specs.Arrays.{countFrom}
+use Rattle.soundness.specs.Sound.{every}
 use Rattle.book.specs.declared.Book.{Book}
 use Rattle.book.specs.declared.JoinedAnswer.{JoinedAnswer}
 use Rattle.book.specs.Arrays.{united, unitedAll}

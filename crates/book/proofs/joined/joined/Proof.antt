@@ -7,7 +7,7 @@ use borrow.Author.Needs.{needs}
 use borrow.Author.Tests.{lt-ltb, le-ltb, not-true, not-false}
 use Rattle.settings.specs.Settings.{heldInRange}
 use Rattle.slides.specs.Clock.{clockInRange}
-use Rattle.forest.specs.Arrays.{every, within, soundOf, labelsWithin}
+use Rattle.soundness.specs.Sound.{every, within, soundOf, labelsWithin}
 use Rattle.book.specs.declared.Book.{Book}
 use Rattle.book.specs.declared.JoinedAnswer.{JoinedAnswer}
 use Rattle.book.specs.Arrays.{cells, most}
