@@ -12,8 +12,8 @@ use Rattle.settings.specs.declared.Settings.{Settings}
 use Rattle.cells.specs.Cell.{lorryCell}
 use Rattle.slides.specs.Clock.{notBefore, slideOf, openSlide, chunkOf, placeOf, started}
 use Rattle.slides.specs.declared.Clock.{Clock}
-use Rattle.forest.specs.Arrays.{hangOf, hungParents, hungSizes}
-use Rattle.forest.specs.declared.Hang.{Hang}
+use Rattle.uniting.specs.United.{hangOf, hungParents, hungSizes}
+use Rattle.uniting.specs.declared.Hang.{Hang}
 use Rattle.state.specs.declared.Book.{Book}
 use Rattle.state.specs.Arrays.{most}
 use Rattle.state.specs.Numbers.{firstOf, unless, has, logPlaces, areCells}

@@ -93,9 +93,9 @@ fn store(
     log[at] = one;
     log[at + 1] = other;
     counts[spot] = count + 1;
-    let h = forest::links::hang(forward_parent, forward_size, 10, one, other);
-    forest::links::hang_parent(forward_parent, h);
-    forest::links::hang_size(forward_size, h);
+    let h = uniting::roots::hang(forward_parent, forward_size, 10, one, other);
+    uniting::hang_parent(forward_parent, h);
+    uniting::hang_size(forward_size, h);
 }
 
 // The time moves to the tick, and nothing is logged.

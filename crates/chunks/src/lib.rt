@@ -153,5 +153,5 @@ fn unite_pair(
     if 1024 <= other {
         return;
     }
-    forest::links::unite(parent, size, label, 10, place, one, other);
+    uniting::unite(parent, size, label, 10, place, one, other);
 }

@@ -4,12 +4,11 @@ use Prim.Native.Nat.{ℕ, zero, suc, _+_, _-_, _≤_, _<_}
 use mathlib.Core.Path.{_≡_, refl, sym, ap, _∙_}
 use native.Mathlib.Omega.{arith}
 use native.Mathlib.Nat.{zero-add, add-zero, sub-zero}
-use lib.Dec.{eqb}
 use borrow.Author.Tests.{eq-eqb, ne-eqb}
 use Rattle.graph.specs.Forest as graph
 use Rattle.graph.specs.Forest.{climb, onward}
 use Rattle.forest.specs.declared.Walk.{Walk}
-use Rattle.forest.specs.Arrays.{walked, ends}
+use Rattle.forest.specs.Arrays.{walked}
 
 module _ (up : ℕ → ℕ) where
   -- a cell that stays ends a walk
@@ -68,7 +67,3 @@ module _ (up : ℕ → ℕ) (most cell : ℕ) where
 
       tail : ℕ → Walk
       tail k = record { root = climb up left next .root; steps = k }
-
-  -- where the walk's root is known, so is whether it ends
-  pub ends-there : {at steps : ℕ} → record { root = at; steps = steps } ≡ walked (climb up most cell) → eqb (up at) at ≡ ends up most cell
-  ends-there e = ap (λ w. eqb (up (w .root)) (w .root)) e

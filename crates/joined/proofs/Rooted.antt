@@ -12,10 +12,11 @@ use lib.Dec.{eqb, ltb}
 use lib.ListN.{List·getD-eq-default}
 use Rattle.graph.specs.Forest.{Walk, onward, climb}
 use Rattle.graph.proofs.Walks.{Way, arrived, onwards}
-use Rattle.forest.specs.Arrays.{parentIn, parentAtIn, labelIn, ends}
+use Rattle.forest.specs.Arrays.{parentIn, parentAtIn, labelIn}
+use Rattle.soundness.specs.Sound.{ends}
 use Rattle.forest.proofs.Climb.{climb-stays, climb-goes, climb-none}
-use Rattle.forest.proofs.Ends.{ends-goes}
-use Rattle.forest.proofs.Ranged.{sound-ranged, sound-ends}
+use Rattle.soundness.proofs.Ends.{ends-goes}
+use Rattle.soundness.proofs.Facts.{sound-ranged, sound-ends}
 use Rattle.state.specs.Arrays.{cells, most}
 use Rattle.joined.specs.Askable.{Sound}
 

@@ -10,7 +10,7 @@ use lib.Dec.{eqb}
 use Rattle.graph.specs.Link.{Link, Linked, Chained, same, chains}
 use Rattle.graph.proofs.Chains.{chained-sym, chained-alone, linked-append-cases, true-chains, false-chains}
 use Rattle.forest.specs.Arrays.{freshParents, parentIn, parentAtIn, labelIn}
-use Rattle.forest.proofs.Every.{every-each}
+use Rattle.soundness.proofs.Every.{every-each}
 use Rattle.forest.proofs.Fill.{length-countFrom}
 use Rattle.state.specs.Arrays.{cells}
 use Rattle.joined.specs.Alone.{apart, aloneIn}

@@ -2,7 +2,8 @@
 use Prim.Native.Nat.{ℕ}
 use mathlib.Core.Bool.{Bool, cond, not}
 use lib.Dec.{eqb}
-use Rattle.forest.specs.Arrays.{every, freshParents}
+use Rattle.soundness.specs.Sound.{every}
+use Rattle.forest.specs.Arrays.{freshParents}
 use Rattle.state.specs.Arrays.{cells}
 
 -- what a cell and its parent say of the cell that is asked for: it is its own parent, and no other cell's

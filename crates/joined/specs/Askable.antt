@@ -4,7 +4,7 @@ use mathlib.Core.Path.{_≡_}
 use mathlib.Core.Bool.{true}
 use mathlib.Core.List.{List}
 use lib.ListN.{length}
-use Rattle.forest.specs.Arrays.{soundOf}
+use Rattle.soundness.specs.Sound.{soundOf}
 use Rattle.state.specs.Arrays.{cells, most}
 
 -- parents that number 1 lets pass, whatever the sizes: each is a cell, and no walk exceeds 10 steps

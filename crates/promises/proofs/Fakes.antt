@@ -15,7 +15,8 @@ use Rattle.graph.proofs.Chains.{chained-one, chains-false}
 use Rattle.settings.specs.declared.Settings.{Settings}
 use Rattle.slides.specs.Clock.{notBefore, slideOf, placeOf, started, movedTo, clockInRange}
 use Rattle.cells.specs.Cell.{lorryCellOver}
-use Rattle.forest.specs.Arrays.{countFrom, every}
+use Rattle.forest.specs.Arrays.{countFrom}
+use Rattle.soundness.specs.Sound.{every}
 use Rattle.state.specs.Arrays.{united, unitedAll}
 use Rattle.state.specs.Log.{linksFrom, chunkLinks, stored}
 use Rattle.state.specs.Order.{inOrder, inOrderOf}

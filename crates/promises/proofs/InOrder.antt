@@ -15,8 +15,9 @@ use Rattle.settings.specs.Settings.{inRange, takenNumber, heldInRange}
 use Rattle.settings.specs.declared.Settings.{Settings}
 use Rattle.slides.specs.Clock.{started, clockInRange}
 use Rattle.slides.proofs.Slides.{InRange, in-range, started-in-range}
-use Rattle.forest.specs.Arrays.{labelIn, every, within, labelsWithin}
-use Rattle.forest.proofs.Every.{each-every, within-both}
+use Rattle.forest.specs.Arrays.{labelIn}
+use Rattle.soundness.specs.Sound.{every, within, labelsWithin}
+use Rattle.soundness.proofs.Every.{each-every, within-both}
 use Rattle.state.specs.Order.{inOrder, inOrderOf}
 use Rattle.promises.specs.History.{Stored, History, clockIn, backwardLinks}
 use Rattle.promises.specs.Panel.{State}

@@ -11,7 +11,8 @@ use Rattle.graph.specs.Trail.{trailOf}
 use Rattle.graph.specs.Forest.{climb, atLeast}
 use Rattle.cells.specs.Cell.{lorryCellOver}
 use Rattle.slides.specs.Clock.{notBefore, slideOf, placeOf, movedTo, clockInRange}
-use Rattle.forest.specs.Arrays.{countFrom, every}
+use Rattle.forest.specs.Arrays.{countFrom}
+use Rattle.soundness.specs.Sound.{every}
 use Rattle.state.specs.declared.Book.{Book}
 use Rattle.joined.specs.declared.JoinedAnswer.{JoinedAnswer}
 use Rattle.state.specs.Arrays.{united, unitedAll}

@@ -9,25 +9,10 @@ use Rattle.settings.specs.declared.Settings.{Settings}
 use Rattle.cells.specs.Cell.{mirror, lorryCell}
 use Rattle.slides.specs.Clock.{notBefore, slideOf, openSlide, chunkOf, placeOf, started, movedTo, clockInRange}
 use Rattle.slides.specs.declared.Clock.{Clock}
-use Rattle.forest.specs.Arrays.{
-  freshParents,
-  freshSizes,
-  freshLabels,
-  walkOf,
-  walkAtOf,
-  rootsOf,
-  rootsAtOf,
-  hangOf,
-  hungParents,
-  hungSizes,
-  hungLabels,
-  United,
-  every,
-  within,
-  soundOf,
-  labelsWithin,
-}
-use Rattle.forest.specs.declared.Hang.{Hang}
+use Rattle.forest.specs.Arrays.{freshParents, freshSizes, freshLabels, walkOf, walkAtOf, rootsOf, rootsAtOf}
+use Rattle.uniting.specs.United.{hangOf, hungParents, hungSizes, hungLabels, United}
+use Rattle.uniting.specs.declared.Hang.{Hang}
+use Rattle.soundness.specs.Sound.{every, within, soundOf, labelsWithin}
 use Rattle.crossing.specs.Across.{JoinedAcross}
 use Rattle.linkfile.specs.Format.{readOf, writeNumber, outputOf, wordAt}
 use Rattle.listing.specs.declared.Played.{Played}
@@ -107,6 +92,11 @@ pub record Single : Type 0 where
   pub fresh-parents : AtMostOne (λ r. r ≡ freshParents 1024)
   pub fresh-sizes : AtMostOne (λ r. r ≡ freshSizes 1024)
   pub fresh-labels : AtMostOne (λ r. r ≡ freshLabels 1024)
+  pub walk : (parent : List ℕ) (most cell : ℕ) → AtMostOne (λ r. r ≡ walkOf parent most cell)
+  pub walk-at : (parent label : List ℕ) (most cut cell : ℕ) → AtMostOne (λ r. r ≡ walkAtOf parent label most cut cell)
+  pub roots : (parent : List ℕ) (most : ℕ) → AtMostOne (λ r. r ≡ rootsOf parent most 1024)
+  pub roots-at : (parent label : List ℕ) (most cut : ℕ) → AtMostOne (λ r. r ≡ rootsAtOf parent label most cut 1024)
+  -- uniting
   pub hang : (parent size : List ℕ) (most one other : ℕ) → AtMostOne (λ r. r ≡ hangOf parent size most one other)
   pub hang-parent : (parent : List ℕ) (h : Hang) → AtMostOne (λ r. r ≡ hungParents parent h)
   pub hang-size : (size : List ℕ) (h : Hang) → AtMostOne (λ r. r ≡ hungSizes size h)
@@ -114,12 +104,9 @@ pub record Single : Type 0 where
   pub unite : (parent size label : List ℕ) (most place one other : ℕ) →
       AtMostOne {A = List ℕ × List ℕ × List ℕ}
       (λ r. United parent size label most one other place (r .0) (r .1) (r .2))
+  -- soundness
   pub sound : (parent size : List ℕ) (most : ℕ) → AtMostOne (λ r. r ≡ soundOf parent size most)
   pub all-within : (numbers : List ℕ) (low end : ℕ) → AtMostOne (λ r. r ≡ every (within low end) 0 numbers)
   pub labels-within : (label : List ℕ) (bound : ℕ) → AtMostOne (λ r. r ≡ labelsWithin label bound)
-  pub walk : (parent : List ℕ) (most cell : ℕ) → AtMostOne (λ r. r ≡ walkOf parent most cell)
-  pub walk-at : (parent label : List ℕ) (most cut cell : ℕ) → AtMostOne (λ r. r ≡ walkAtOf parent label most cut cell)
-  pub roots : (parent : List ℕ) (most : ℕ) → AtMostOne (λ r. r ≡ rootsOf parent most 1024)
-  pub roots-at : (parent label : List ℕ) (most cut : ℕ) → AtMostOne (λ r. r ≡ rootsAtOf parent label most cut 1024)
   -- crossing
   pub joined-across : (backward forward : List ℕ) (one other : ℕ) → AtMostOne (JoinedAcross backward forward one other)

@@ -11,11 +11,15 @@ use lib.ListN.{length, set, length-set, length-replicate}
 use borrow.Author.Tests.{eq-eqb}
 use Rattle.graph.specs.Forest.{Forest, Labelled, Each, empty, also, EndsBelow, walk, unite, forestOf}
 use Rattle.graph.proofs.Forests.{walk-ends, size-positive, size-bounded, parent-below}
-use Rattle.forest.specs.Arrays.{parentIn, sizeIn, held, hangOf, hungLabels, soundOf, ends}
-use Rattle.forest.specs.declared.Hang.{Hang}
+use Rattle.forest.specs.Arrays.{parentIn, sizeIn, held}
+use Rattle.uniting.specs.United.{hangOf, hungLabels}
+use Rattle.soundness.specs.Sound.{soundOf, ends}
+use Rattle.uniting.specs.declared.Hang.{Hang}
 use Rattle.forest.proofs.Fill.{length-countFrom}
-use Rattle.forest.proofs.Ranged.{Ranged, ranged-sound}
-use Rattle.forest.proofs.Held.{held-fresh, each, held-unite, ranged-unite}
+use Rattle.forest.proofs.Ranged.{Ranged}
+use Rattle.soundness.proofs.Facts.{ranged-sound}
+use Rattle.forest.proofs.Held.{held-fresh}
+use Rattle.uniting.proofs.United.{each, held-unite, ranged-unite}
 use Rattle.state.specs.Arrays.{cells, most, Arrays, freshArrays, united, unitedAll}
 
 -- ---- each of a list, from its end

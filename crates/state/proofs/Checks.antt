@@ -12,8 +12,8 @@ use lib.ListN.{length, getD, List·getD-eq-default}
 use Rattle.settings.specs.Settings.{heldInRange}
 use Rattle.slides.specs.Clock.{clockInRange}
 use Rattle.slides.proofs.Slides.{InRange, in-range}
-use Rattle.forest.specs.Arrays.{every, within, soundOf, labelsWithin}
-use Rattle.forest.proofs.Every.{every-each, within-high}
+use Rattle.soundness.specs.Sound.{every, within, soundOf, labelsWithin}
+use Rattle.soundness.proofs.Every.{every-each, within-high}
 use Rattle.state.specs.declared.Book.{Book}
 use Rattle.state.specs.Arrays.{cells, most}
 use Rattle.state.specs.Log.{Readable}

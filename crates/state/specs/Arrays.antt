@@ -3,8 +3,9 @@
 use Prim.Native.Nat.{ℕ}
 use mathlib.Core.List.{List, [], _∷_}
 use Rattle.graph.specs.Forest.{Labelled}
-use Rattle.forest.specs.Arrays.{freshParents, freshSizes, freshLabels, hangOf, hungParents, hungSizes, hungLabels}
-use Rattle.forest.specs.declared.Hang.{Hang}
+use Rattle.forest.specs.Arrays.{freshParents, freshSizes, freshLabels}
+use Rattle.uniting.specs.United.{hangOf, hungParents, hungSizes, hungLabels}
+use Rattle.uniting.specs.declared.Hang.{Hang}
 
 abbrev pub cells : ℕ
 cells = 1024

@@ -7,7 +7,7 @@ use lib.ListN.{replicate}
 use Rattle.settings.specs.Settings.{heldInRange}
 use Rattle.slides.specs.Clock.{clockInRange}
 use Rattle.slides.specs.declared.Clock.{Clock}
-use Rattle.forest.specs.Arrays.{every, within, soundOf, labelsWithin}
+use Rattle.soundness.specs.Sound.{every, within, soundOf, labelsWithin}
 use Rattle.state.specs.declared.Book.{Book}
 use Rattle.state.specs.Arrays.{cells, most}
 

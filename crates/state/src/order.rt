@@ -29,14 +29,14 @@ pub fn in_order<'a>(
     if settings::judge(held) != 0 {
         return false;
     }
-    if !forest::soundness::all_within(counts, 0, 257) {
+    if !soundness::all_within(counts, 0, 257) {
         return false;
     }
-    if !forest::soundness::sound(forward_parent, forward_size, 10) {
+    if !soundness::sound(forward_parent, forward_size, 10) {
         return false;
     }
-    if !forest::soundness::sound(backward_parent, backward_size, 10) {
+    if !soundness::sound(backward_parent, backward_size, 10) {
         return false;
     }
-    forest::soundness::labels_within(backward_label, 15)
+    soundness::labels_within(backward_label, 15)
 }

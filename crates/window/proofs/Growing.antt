@@ -6,7 +6,7 @@ use mathlib.Core.List.{List, [], _∷_, reverse, reverseAux}
 use native.Mathlib.Omega.{arith}
 use lib.ListN.{getD}
 use Rattle.graph.specs.Forest.{Labelled}
-use Rattle.forest.specs.Arrays.{United}
+use Rattle.uniting.specs.United.{United}
 use Rattle.state.specs.Arrays.{most, Arrays, arraysOf, united, unitedAll}
 use Rattle.state.specs.Log.{labelled}
 use Rattle.window.specs.Gathered.{linksOn, linksIn}

@@ -66,7 +66,7 @@ pub fn grow<'a>(
 {
     let mut i = 0;
     while i < count {
-        forest::links::unite(parent, size, label, 10, labels[i], ones[i], others[i]);
+        uniting::unite(parent, size, label, 10, labels[i], ones[i], others[i]);
         i += 1;
     }
 }

@@ -9,7 +9,7 @@ use borrow.Author.Tests.{not-true, not-false}
 use lib.Dec.{ltb}
 use lib.ListN.{getD}
 use Rattle.forest.specs.Arrays.{freshParents, parentAtIn}
-use Rattle.forest.proofs.Every.{Tested, tested-none, tested-more, tested-all, struck, kept}
+use Rattle.soundness.proofs.Every.{Tested, tested-none, tested-more, tested-all, struck, kept}
 use Rattle.forest.proofs.Fill.{getD-within, length-countFrom}
 use Rattle.state.specs.Arrays.{cells}
 use Rattle.joined.specs.Alone.{apart}

@@ -5,7 +5,7 @@ use borrow.Author.Needs.{needs}
 use borrow.Author.Tests.{not-true, not-false}
 use Rattle.settings.specs.Settings.{heldInRange}
 use Rattle.slides.specs.Clock.{clockInRange}
-use Rattle.forest.specs.Arrays.{every, within, soundOf}
+use Rattle.soundness.specs.Sound.{every, within, soundOf}
 use Rattle.state.specs.Arrays.{most}
 use Rattle.state.specs.Order.{inOrderOf}
 use Rattle.state.proofs.Checks.{unless-passed, unless-failed}

@@ -1,0 +1,4 @@
+pub mod Doubling
+pub mod Ends
+pub mod Every
+pub mod Facts

@@ -1,0 +1,45 @@
+-- Number 1 of document 01, for one forest in arrays: what each of its tests asks of the lists of parents, sizes and labels.
+-- The lists may have any length, which is the number of cells.
+use Prim.Native.Nat.{ℕ, suc, _+_, _*_}
+use mathlib.Core.Bool.{Bool, true, _&&_, _||_}
+use mathlib.Core.List.{List, [], _∷_}
+use lib.Dec.{eqb, leb, ltb}
+use lib.ListN.{length, getD}
+use Rattle.graph.specs.Forest.{climb}
+use Rattle.forest.specs.Arrays.{parentIn}
+
+-- f holds of every entry of the list, given its place and the entry; the first place is i
+unfoldable pub every : (ℕ → ℕ → Bool) → ℕ → List ℕ → Bool
+every f i [] = true
+every f i (x ∷ xs) = f i x && every f (suc i) xs
+
+-- the entry is at least low and below the end
+abbrev pub within : ℕ → ℕ → ℕ → ℕ → Bool
+within low end c x = leb low x && ltb x end
+
+-- a walk without a cut does not exceed `most` steps: after these it stands at a cell that is its own parent
+abbrev pub ends : (ℕ → ℕ) → ℕ → ℕ → Bool
+ends up most c =
+    let r : ℕ = climb up most c .root in
+    eqb (up r) r
+
+-- the same of cell c with the parent p; a root needs no walk
+abbrev pub endsFrom : List ℕ → ℕ → ℕ → ℕ → Bool
+endsFrom ps most c p =
+    let walks : Bool = ends (parentIn ps) most c in
+    eqb p c || walks
+
+-- number 1 of one forest: as many sizes as parents; each parent a cell; each size from 1 to the number of cells; and no
+-- cell's walk exceeds `most` steps
+abbrev pub soundOf : List ℕ → List ℕ → ℕ → Bool
+soundOf ps ss most =
+    let cells : ℕ = length ps in
+    eqb (length ss) cells && every (within 0 cells) 0 ps && every (within 1 (cells + 1)) 0 ss && every (endsFrom ps most) 0 ps
+
+-- each label is at most the bound
+abbrev pub labelsWithin : List ℕ → ℕ → Bool
+labelsWithin ls bound = every (λ c x. leb x bound) 0 ls
+
+-- each tree but a root's has at most half the cells of its parent's
+abbrev pub doublesAt : List ℕ → ℕ → ℕ → Bool
+doublesAt ss c p = eqb p c || leb (2 * getD ss c 0) (getD ss p 0)
