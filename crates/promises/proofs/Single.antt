@@ -41,6 +41,7 @@ single =
       );
       grow = λ ones others labels count before. equal;
       highest-label = λ parent label top one other. equal;
+      best-trail = λ ones others one other chain r s p q. both r s (p .count, p .buffer) (q .count, q .buffer);
       chain = λ b log chain one other r s p q. both r s (p .answered, p .written) (q .answered, q .written);
       read = λ file. equal;
       write = λ s records out. both;

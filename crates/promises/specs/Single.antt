@@ -30,6 +30,9 @@ use Rattle.window.specs.Agree.{agreeFrom}
 use Rattle.chunks.specs.Time.{emptied, movedBook}
 use Rattle.joined.specs.Joined.{joinedOf}
 use Rattle.book.specs.Calls.{Gives, openingOf, linkOf, clockOf}
+use Rattle.graph.specs.Trail.{trailOf}
+use Rattle.fewest.specs.Lists.{linksOf}
+use Rattle.fewest.specs.Best.{Given}
 use Rattle.trail.specs.declared.ChainAnswer.{ChainAnswer}
 use Rattle.trail.specs.Chain.{GivesChain, chainOf}
 
@@ -60,6 +63,9 @@ pub record Single : Type 0 where
   pub grow : (ones others labels : List ℕ) (count : ℕ) (before : Arrays) →
       AtMostOne (λ r. r ≡ unitedAll before (reverse (linksIn ones others labels count)))
   pub highest-label : (parent label : List ℕ) (top one other : ℕ) → AtMostOne (λ r. r ≡ agreeFrom top parent label one other)
+  -- fewest
+  pub best-trail : (ones others : List ℕ) (one other : ℕ) (chain : List ℕ) →
+      AtMostOne {A = ℕ × List ℕ} (λ r. Given (trailOf (linksOf ones others) one other) chain (r .0) (r .1))
   -- trail
   pub chain : (b : Book) (log chain : List ℕ) (one other : ℕ) →
       AtMostOne {A = ChainAnswer × List ℕ} (λ r. GivesChain (chainOf b log chain one other) (r .0) (r .1))

@@ -28,9 +28,9 @@ use Rattle.window.proofs.Gathered.{Fits, Fronts, window-fits, put-fronts, put-r
 use Rattle.window.proofs.Highest.{highest-exactly, highest-most}
 use Rattle.window.proofs.WindowLinks.{window-ends, window-falls, window-few, window-all, window-oldest}
 use Rattle.trail.specs.declared.ChainAnswer.{ChainAnswer}
-use Rattle.trail.specs.Lists.{linksOf}
-use Rattle.trail.specs.Descent.{written}
-use Rattle.trail.specs.Best.{Asked, Given}
+use Rattle.fewest.specs.Lists.{linksOf}
+use Rattle.fewest.specs.Descent.{written}
+use Rattle.fewest.specs.Best.{Asked, Given}
 use Rattle.trail.specs.Front.{sideFrom, Window}
 use Rattle.trail.specs.Chain.{chainPlaces, labelOf, chainCells, chainNumber, chainBy, chainOf, GivesChain, Answerable}
 use Rattle.trail.proofs.Front.{side-links, side-asked}

@@ -1,11 +1,2 @@
-pub mod LinkLists
-pub mod Search
-pub mod Walking
-pub mod Reach
-pub mod Counting
-pub mod Onward
-pub mod Nearest
-pub mod Descending
-pub mod BestTrail
 pub mod Front
 pub mod ChainCall

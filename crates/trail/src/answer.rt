@@ -1,6 +1,5 @@
 // The answer of the chain call for a book in order, two cells and buffers that are long enough.
 use super::ChainAnswer;
-use super::best::best_trail;
 use state::Book;
 ghost use mathlib.Core.Path.{_≡_};
 ghost use Prim.Native.Nat.{suc, _≤_};
@@ -8,8 +7,8 @@ ghost use lib.ListN.{length, take};
 ghost use Rattle.graph.specs.Trail.{trailOf};
 ghost use Rattle.window.specs.Window.{highest};
 ghost use Rattle.window.specs.Gathered.{linksIn};
-ghost use Rattle.trail.specs.Lists.{linksOf};
-ghost use Rattle.trail.specs.Best.{Asked, Given};
+ghost use Rattle.fewest.specs.Lists.{linksOf};
+ghost use Rattle.fewest.specs.Best.{Asked, Given};
 ghost use Rattle.trail.specs.Chain.{chainOf, GivesChain, Answerable};
 ghost use Rattle.trail.specs.Front.{frontOf, sideFrom, Window};
 
@@ -99,7 +98,7 @@ fn trail_from(
         (now (chain .exit)) ⌝ }
 {
     let front = front(labels, count, j);
-    best_trail(&ones[..front], &others[..front], one, other, chain)
+    fewest::best_trail(&ones[..front], &others[..front], one, other, chain)
 }
 
 // How many labels, of the first so many, come before the first one below j.

@@ -1,10 +1,6 @@
 // The chain call: the newest slide from which on links chain two cells, the best trail over those links, and for how many
 // further closings the two stay joined.
 mod answer; // answer.rt: the answer for a book in order, two cells and buffers that are long enough
-mod best; // best.rt: the best trail over links in two lists
-mod lists; // lists.rt: the links of each cell
-mod levels; // levels.rt: how many cells lead on from each cell
-mod descent; // descent.rt: the best trail, from the first cell down
 
 use state::Book;
 ghost use Rattle.trail.specs.Chain.{chainOf, GivesChain};

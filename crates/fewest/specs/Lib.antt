@@ -1,0 +1,4 @@
+pub mod Best
+pub mod Descent
+pub mod Levels
+pub mod Lists
