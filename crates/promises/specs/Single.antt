@@ -3,7 +3,7 @@
 use Prim.Native.Nat.{ℕ}
 use mathlib.Core.Path.{_≡_}
 use mathlib.Core.List.{List, _++_, reverse}
-use lib.ListN.{length, drop, replicate}
+use lib.ListN.{length, getD, drop, replicate}
 use Rattle.settings.specs.Settings.{settingsNumber}
 use Rattle.settings.specs.declared.Settings.{Settings}
 use Rattle.cells.specs.Cell.{mirror, lorryCell}
@@ -28,6 +28,7 @@ use Rattle.forest.specs.Arrays.{
   labelsWithin,
 }
 use Rattle.forest.specs.declared.Hang.{Hang}
+use Rattle.lists.specs.Listed as lists
 use Rattle.crossing.specs.Across.{JoinedAcross}
 use Rattle.linkfile.specs.Format.{readOf, writeNumber, outputOf, wordAt}
 use Rattle.listing.specs.declared.Played.{Played}
@@ -120,5 +121,9 @@ pub record Single : Type 0 where
   pub walk-at : (parent label : List ℕ) (most cut cell : ℕ) → AtMostOne (λ r. r ≡ walkAtOf parent label most cut cell)
   pub roots : (parent : List ℕ) (most : ℕ) → AtMostOne (λ r. r ≡ rootsOf parent most 1024)
   pub roots-at : (parent label : List ℕ) (most cut : ℕ) → AtMostOne (λ r. r ≡ rootsAtOf parent label most cut 1024)
+  -- lists
+  pub number-at : (list : List ℕ) (place : ℕ) → AtMostOne (λ r. r ≡ getD list place 0)
+  pub list-entries : (keys first : List ℕ) →
+      AtMostOne {A = List ℕ × List ℕ} (λ r. lists.Listed keys (length first) 0 (r .0) (r .1))
   -- crossing
   pub joined-across : (backward forward : List ℕ) (one other : ℕ) → AtMostOne (JoinedAcross backward forward one other)
