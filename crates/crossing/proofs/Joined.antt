@@ -1,7 +1,7 @@
 -- What a crossing that begins with no marks says: the groups that are marked after are those of the cells that the first
 -- cell leads across to, so the second cell's mark is the answer. And two answers that the contract allows are equal.
 use Prim.Native.Nat.{ℕ, zero, suc, _<_, _≤_}
-use mathlib.Core.Path.{_≡_, refl, sym, _∙_}
+use mathlib.Core.Path.{_≡_, refl, sym}
 use mathlib.Core.Bool.{Bool, true, false, not}
 use mathlib.Core.List.{List}
 use mathlib.Core.Logic.{⊎-elim}
@@ -9,22 +9,9 @@ use native.Mathlib.Nat.{pos-of-ne-zero}
 use native.Mathlib.Omega.{arith}
 use borrow.Author.Tests.{eqb-true, eqb-false, not-true, not-false}
 use lib.Dec.{eqb}
-use lib.ListN.{length, getD, replicate, length-replicate, getD-replicate}
+use lib.ListN.{length, getD, replicate}
 use Rattle.crossing.specs.Across.{Across, here, by-backward, by-forward, JoinedAcross}
-use Rattle.crossing.specs.Groups.{Listed}
 use Rattle.crossing.specs.Marks.{Met, Crossed, Begins}
-
--- no cell is listed yet
-pub none-listed : (n : ℕ) {keys : List ℕ} → length keys ≡ n → Listed keys (length keys) (replicate n n) (replicate n n)
-none-listed n {keys} e =
-    record {
-      firstLong = length-replicate n n ∙ sym e;
-      nextLong = length-replicate n n ∙ sym e;
-      firstOf = λ group h.
-          rw (getD-replicate n group n 0 (omega arith))
-          (record { from = omega arith; within = omega arith; inGroup = λ lt. absurd (omega arith); noneBefore = λ c le lt g. omega arith });
-      nextOf = λ c le lt. absurd (omega arith);
-    }
 
 -- no group is marked yet
 none-marked : (n group : ℕ) → _≡_ {A = ℕ} (getD (replicate n 0) group 0) 0

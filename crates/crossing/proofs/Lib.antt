@@ -1,5 +1,4 @@
 -- What the proofs of several functions use.
-pub mod Lists
 pub mod Unmarked
 pub mod Passing
 pub mod Joined

@@ -1,22 +1,21 @@
 -- A crossing from one group, said of its own side and the other side, for both functions that cross.
 --
 -- What a call does with the marks, after what was done before it, is one spread again (`spread-on`). In the loop over the
--- cells of the group, those below `cell` have been passed, that is, met on the other side (`Passing`). A turn that calls
+-- cells of the group, those below `cell` have been passed, that is, met on the other side (`Passing`, `Walked`). A turn that calls
 -- nothing is a turn like the others: where the shared group has its mark, nothing done is a crossing (`crossed-already`).
 -- Where the loop ends, the whole group has been passed, so the group's mark and the loop are the crossing (`passed-all`).
 use Prim.Native.Nat.{ℕ, _<_, _≤_, _+_}
 use mathlib.Core.Path.{_≡_, refl, sym, _∙_}
 use mathlib.Core.List.{List}
 use mathlib.Core.Logic.{_⊎_, inl, inr, ⊎-elim}
-use native.Mathlib.Decide.{ℕ-discrete, decLt}
-use native.Mathlib.Nat.{eq-or-lt-of-le, le-refl, pos-of-ne-zero}
+use native.Mathlib.Decide.{ℕ-discrete}
+use native.Mathlib.Nat.{le-refl, pos-of-ne-zero}
 use native.Mathlib.Omega.{arith}
 use lib.ListN.{length, getD, set, length-set}
 use lib.Seq.{getD-set-same, getD-set-other}
+use Rattle.lists.proofs.Walk.{Walked, walk-begins, walk-on, walk-ends, walked-map, entry-rises}
 use Rattle.crossing.specs.Across.{Across, here, by-backward, by-forward}
-use Rattle.crossing.specs.Groups.{FirstFrom}
 use Rattle.crossing.specs.Marks.{Sides, Begins, Marked, Met, Reached, Spread, Crossed}
-use Rattle.crossing.proofs.Lists.{keyed-inside}
 use Rattle.crossing.proofs.Unmarked.{unmarked, unmarked-kept, unmarked-less}
 
 -- from b one goes on with the sides exchanged
@@ -47,8 +46,8 @@ crossed-already ne = record { met = pos-of-ne-zero ne; ownSpread = spread-none; 
 remarked : {own first next other otherFirst otherNext m o m₁ o₁ : List ℕ} → Sides own first next other otherFirst otherNext m o → length m₁ ≡ length m → length o₁ ≡ length o → Sides own first next other otherFirst otherNext m₁ o₁
 remarked s e f =
     record {
-      ownSide = record { keyed = s .ownSide .keyed; listed = s .ownSide .listed; marked = e ∙ s .ownSide .marked };
-      otherSide = record { keyed = s .otherSide .keyed; listed = s .otherSide .listed; marked = f ∙ s .otherSide .marked };
+      ownSide = record { listed = s .ownSide .listed; marked = e ∙ s .ownSide .marked };
+      otherSide = record { listed = s .otherSide .listed; marked = f ∙ s .otherSide .marked };
       even = s .even;
     }
 
@@ -68,8 +67,7 @@ pub record Passing (t : ℕ) (own first next other otherFirst otherNext : List �
   pub sides : Sides own first next other otherFirst otherNext m o
   pub fewer : unmarked m + unmarked o < t
   pub inside : group < length own
-  pub inGroup : cell < length own → getD own cell 0 ≡ group
-  pub passed : (c : ℕ) → c < cell → c < length own → getD own c 0 ≡ group → Met other o c
+  pub walked : Walked own group (Met other o) cell
   pub ownSpread : Spread (Reached own other group) own other m₀ m o
   pub otherSpread : Spread (Reached own other group) other own o₀ o m
 
@@ -77,14 +75,12 @@ module _ {t : ℕ} {own first next other otherFirst otherNext : List ℕ} {group
   -- the group is marked, and the loop begins at its first cell
   pub passing-begins : {m o : List ℕ} {cell : ℕ} → unmarked m + unmarked o ≡ t → Sides own first next other otherFirst otherNext m o → Begins own m group → cell ≡ getD first group 0 → Passing t own first next other otherFirst otherNext group (set m group 1) o (set m group 1) o cell
   passing-begins {m} {o} {cell} e s b a =
-      let f : FirstFrom own group 0 cell = rw a (s .ownSide .listed .firstOf group (b .inside)) in
       let less = unmarked-less m group (omega (arith, s .ownSide .marked, b .inside)) (b .unmarked) in
       record {
         sides = remarked s (simp length-set) refl;
         fewer = omega arith;
         inside = b .inside;
-        inGroup = f .inGroup;
-        passed = λ c lt _ g. absurd (f .noneBefore c (omega arith) lt g);
+        walked = walk-begins (s .ownSide .listed) (b .inside) a;
         ownSpread = spread-none;
         otherSpread = spread-none;
       }
@@ -92,7 +88,7 @@ module _ {t : ℕ} {own first next other otherFirst otherNext : List ℕ} {group
   module _ {m₀ o₀ m o : List ℕ} {cell : ℕ} (p : Passing t own first next other otherFirst otherNext group m₀ o₀ m o cell) where
     -- the group of a cell on the other side
     pub shared-inside : {c shared : ℕ} → c < length own → shared ≡ getD other c 0 → shared < length other
-    shared-inside h e = keyed-inside (p .sides .otherSide .keyed) (omega (arith, p .sides .even)) e
+    shared-inside {c} h e = rw e (p .sides .otherSide .listed .inside c (omega (arith, p .sides .even)))
 
     -- what a call on the other side asks
     pub passing-asks : {shared : ℕ} → shared < length other → getD o shared 0 ≡ 0 → (unmarked o + unmarked m < t) × (Sides other otherFirst otherNext own first next o m × Begins other o shared)
@@ -105,39 +101,28 @@ module _ {t : ℕ} {own first next other otherFirst otherNext : List ℕ} {group
     )
 
     module _ (h : cell < length own) where
-      onward : FirstFrom own group (cell + 1) (getD next cell 0)
-      onward = rw (p .inGroup h) at (p .sides .ownSide .listed .nextOf cell (omega arith) h)
-
-      -- along a list the cells rise
       pub rises : {cell′ : ℕ} → cell′ ≡ getD next cell 0 → cell < cell′
-      rises e = rw e (omega (arith, onward .from))
+      rises = entry-rises (p .sides .ownSide .listed) h
 
       module _ {shared : ℕ} {m₁ o₁ : List ℕ} (e : shared ≡ getD other cell 0) (q : Crossed other own shared o m o₁ m₁) where
         reached-on : (c : ℕ) → Reached other own shared c → Reached own other group c
         reached-on c r a ha g =
-            across-on (p .sides .even) (by-backward (here refl) h (g ∙ sym (p .inGroup h))) (r cell (omega (arith, p .sides .even)) (sym e))
-
-        passed-on : (c : ℕ) → c < getD next cell 0 → c < length own → getD own c 0 ≡ group → Dec (cell < c) → Met other o₁ c
-        passed-on c lt hc g (yes past) = absurd (onward .noneBefore c (omega arith) lt g)
-        passed-on c lt hc g (no until) =
-            let met : Met other o₁ cell = rw (← e) (q .met) in
-            ⊎-elim (λ same. rw same met) (λ below. q .ownSpread .kept _ (p .passed c below hc g)) (eq-or-lt-of-le (omega arith))
+            across-on (p .sides .even) (by-backward (here refl) h (g ∙ sym (p .walked .has h))) (r cell (omega (arith, p .sides .even)) (sym e))
 
         -- the shared group has been crossed from: on to the next cell
         pub passing-turns : {cell′ : ℕ} → cell′ ≡ getD next cell 0 → Passing t own first next other otherFirst otherNext group m₀ o₀ m₁ o₁ cell′
         passing-turns a =
             let mine = unmarked-kept m m₁ (q .otherSpread .long) (q .otherSpread .kept) in
             let theirs = unmarked-kept o o₁ (q .ownSpread .long) (q .ownSpread .kept) in
-            rw a
-            (record {
+            let met : Met other o₁ cell = rw (← e) (q .met) in
+            record {
               sides = remarked (p .sides) (q .otherSpread .long) (q .ownSpread .long);
               fewer = omega (arith, p .fewer);
               inside = p .inside;
-              inGroup = onward .inGroup;
-              passed = λ c lt hc g. passed-on c lt hc g (decLt cell c);
+              walked = walk-on (p .sides .ownSide .listed) (walked-map (λ c. q .ownSpread .kept _) (p .walked)) h met a;
               ownSpread = spread-on reached-on (q .ownSpread .kept) (p .ownSpread) (q .otherSpread);
               otherSpread = spread-on reached-on (q .otherSpread .kept) (p .otherSpread) (q .ownSpread);
-            })
+            }
 
   -- the loop ends
   pub passed-all : {marks o₀ m o : List ℕ} {cell : ℕ} → Passing t own first next other otherFirst otherNext group (set marks group 1) o₀ m o cell → length own ≤ cell → Crossed own other group marks o₀ m o
@@ -153,7 +138,7 @@ module _ {t : ℕ} {own first next other otherFirst otherNext : List ℕ} {group
               long = long;
               kept = λ g k. s .kept g (marks-kept marks group h g k (ℕ-discrete g group));
               reached = λ c hc k. ⊎-elim (λ b. ⊎-elim inl (λ e. inr (λ a ha g. by-backward (here refl) hc (g ∙ sym e))) (new c b)) inr (s .reached c hc k);
-              closed = λ c hc k. ⊎-elim (λ b. ⊎-elim inl (λ e. inr (p .passed c (omega arith) hc e)) (new c b)) inr (s .closed c hc k);
+              closed = λ c hc k. ⊎-elim (λ b. ⊎-elim inl (λ e. inr (walk-ends (p .walked) end c hc e)) (new c b)) inr (s .closed c hc k);
             };
         otherSpread = p .otherSpread;
       }

@@ -5,13 +5,12 @@ use mathlib.Core.Path.{_≡_}
 use mathlib.Core.Logic.{_⊎_}
 use mathlib.Core.List.{List}
 use lib.ListN.{length, getD}
-use Rattle.crossing.specs.Across.{Across, Keyed}
-use Rattle.crossing.specs.Groups.{Listed}
+use Rattle.lists.specs.Listed.{Listed}
+use Rattle.crossing.specs.Across.{Across}
 
 -- one side: the key of each cell, the lists of its groups, and a mark for each group
 pub record Side (keys first next marks : List ℕ) : Type 0 where
-  pub keyed : Keyed keys
-  pub listed : Listed keys 0 first next
+  pub listed : Listed keys (length keys) 0 first next
   pub marked : length marks ≡ length keys
 
 -- both sides, of the same cells

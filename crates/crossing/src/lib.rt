@@ -1,35 +1,11 @@
 // Crossing (document 01): from a group of the backward forest to each forward group that shares a cell with it, and from
-// there back again, until no new group is met. A cell's key is the root of its tree; the cells of one key are a group.
-ghost use mathlib.Core.Path.{_≡_};
+// there back again, until no new group is met. A cell's key is the root of its tree; the cells of one key are a group, and are
+// listed (crate lists).
+use lists::list_entries;
+use lists::number_at;
 ghost use Prim.Native.Nat.{_<_};
-ghost use lib.ListN.{length, getD};
 ghost use Rattle.crossing.specs.Across.{Keyed, JoinedAcross};
-ghost use Rattle.crossing.specs.Groups.{Listed};
 ghost use Rattle.crossing.specs.Marks.{Sides, Begins, Crossed};
-
-// The number at a place of a list.
-fn number_at(list: &[u16], place: usize) -> usize
-    requires { ⌜ place < length (now list) ⌝ }
-    ensures { λ r. ⌜ r ≡ getD (now (list .entry)) place 0 ⌝ }
-{
-    list[place] as usize
-}
-
-// Lists the cells of each group, the last cell first, so that each list rises.
-fn list_groups(keys: &[u16], first: &mut [u16], next: &mut [u16])
-    requires keyed { ⌜ Keyed (now keys) ⌝ }
-    requires few { ⌜ length (now keys) < 65536 ⌝ }
-    requires empty { ⌜ Listed (now keys) (length (now keys)) (now first) (now next) ⌝ }
-    ensures { λ _. ⌜ Listed (now (keys .entry)) 0 (now (first .exit)) (now (next .exit)) ⌝ }
-{
-    let mut cell = keys.len();
-    while 0 < cell {
-        cell -= 1;
-        let group = number_at(keys, cell);
-        next[cell] = first[group];
-        first[group] = cell as u16;
-    }
-}
 
 // Marks a backward group, then crosses to the forward group of each of its cells that has no mark yet.
 fn from_backward(
@@ -125,10 +101,10 @@ pub fn joined_across(backward: &[u16; 1024], forward: &[u16; 1024], one: u16, ot
     // 1024 ends a list: to begin with, all are empty.
     let mut backward_first = [1024u16; 1024];
     let mut backward_next = [1024u16; 1024];
-    list_groups(backward, &mut backward_first, &mut backward_next);
+    list_entries(backward, &mut backward_first, &mut backward_next);
     let mut forward_first = [1024u16; 1024];
     let mut forward_next = [1024u16; 1024];
-    list_groups(forward, &mut forward_first, &mut forward_next);
+    list_entries(forward, &mut forward_first, &mut forward_next);
     let mut backward_marks = [0u8; 1024];
     let mut forward_marks = [0u8; 1024];
     from_backward(

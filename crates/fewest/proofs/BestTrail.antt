@@ -1,38 +1,24 @@
--- The parts of the best trail put together: lists that begin empty, numbers that begin unknown, and what is given at last.
+-- The parts of the best trail put together: the lists of both sides, numbers that begin unknown, and what is given at last.
 use Prim.Native.Nat.{ℕ, zero, suc, _≤_, _<_}
 use native.Mathlib.Nat.{le-trans}
 use native.Mathlib.Omega.{arith}
 use mathlib.Core.Path.{_≡_, refl, sym}
 use mathlib.Core.List.{List}
-use lib.ListN.{length, getD, replicate, length-replicate, getD-replicate}
+use lib.ListN.{length, getD, take, replicate, length-replicate}
+use lib.Seq.{length-take-le}
 use borrow.Author.Tests.{le-leb, lt-leb}
 use Rattle.graph.specs.Trail.{trailOf}
 use Rattle.graph.proofs.Trails.{trail-one}
 use Rattle.graph.proofs.Finder.{trailOf-best}
-use Rattle.fewest.specs.Lists.{linksOf, FirstLink, AllBelow, Listed, BothWays}
+use Rattle.lists.specs.Listed.{Listed}
+use Rattle.fewest.specs.Lists.{linksOf, BothWays}
 use Rattle.fewest.specs.Levels.{Counted, Blank}
 use Rattle.fewest.specs.Descent.{Down, written}
 use Rattle.fewest.specs.Best.{Asked, Given}
 
--- where the limit is no link, lists that hold nothing else are empty
-pub none-listed :
-    (cells limit : ℕ) {from : List ℕ} →
-    length from ≤ limit → AllBelow cells from → Listed from (length from) (replicate cells limit) (replicate limit limit)
-none-listed cells limit {from} few inside =
-    record {
-      inside = rw length-replicate inside;
-      enough = rw length-replicate few;
-      firstOf = λ c h. rw (getD-replicate cells c limit 0 (rw length-replicate at h)) (none c);
-      nextOf = λ i le lt. absurd (omega arith);
-    }
-  where
-    none : (c : ℕ) → FirstLink from c (length from) limit
-    none c =
-        record {
-          least = few;
-          joins = λ lt. absurd (omega arith);
-          noneBefore = λ i le lt within. absurd (omega arith);
-        }
+-- so many places of the array for the links
+pub places-long : (links : ℕ) → links ≤ 4096 → length {A = ℕ} (take links (replicate 4096 0)) ≡ links
+places-long links few = length-take-le links (replicate 4096 0) (rw length-replicate few)
 
 pub all-blank : (cells : ℕ) → Blank (replicate cells 0)
 all-blank zero c = refl
@@ -42,14 +28,12 @@ all-blank (suc cells) (suc c) = all-blank cells c
 pub both-ways :
     {ones others firstOne nextOne firstOther nextOther chain : List ℕ} {one other : ℕ} →
     Asked ones others one other chain →
-    Listed ones 0 firstOne nextOne →
-    length firstOne ≡ 1024 →
-    Listed others 0 firstOther nextOther →
-    length firstOther ≡ 1024 → BothWays 1024 ones others firstOne nextOne firstOther nextOther
-both-ways a forth oneLong back otherLong =
+    Listed ones 1024 0 firstOne nextOne →
+    Listed others 1024 0 firstOther nextOther → BothWays 1024 ones others firstOne nextOne firstOther nextOther
+both-ways a forth back =
     record {
-      forth = record { long = oneLong; even = a .even; across = a .othersInside; listed = forth };
-      back = record { long = otherLong; even = sym (a .even); across = a .onesInside; listed = back };
+      forth = record { even = a .even; across = a .othersInside; listed = forth };
+      back = record { even = sym (a .even); across = a .onesInside; listed = back };
     }
 
 module _

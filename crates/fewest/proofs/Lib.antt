@@ -1,6 +1,5 @@
 pub mod LinkLists
 pub mod Search
-pub mod Walking
 pub mod Reach
 pub mod Counting
 pub mod Onward

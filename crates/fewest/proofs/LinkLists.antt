@@ -1,80 +1,16 @@
--- The lists of the cells' links, and the links that they list.
---
--- The lists grow by one link: it becomes the first of its cell, and what was first comes next (`list-more`). Two cells
--- are linked exactly when a link leads from the one to the other, read from one of its two sides (`linked-leads`,
--- `leads-linked`).
-use Prim.Native.Nat.{ℕ, zero, suc, _<_, _≤_, _+_, _-_, suc-le-suc, zero-le}
+-- The links that two lists of cells hold: two cells are linked exactly when a link leads from the one to the other, read from
+-- one of its two sides (`linked-leads`, `leads-linked`). And the cells across a cell's links, which a walk along its list passes.
+use Prim.Native.Nat.{ℕ, zero, suc, _<_, _≤_, suc-le-suc, zero-le}
 use mathlib.Core.Path.{_≡_, refl, sym}
 use mathlib.Core.List.{List, [], _∷_}
-use mathlib.Core.Logic.{_⊎_, inl, inr, ⊎-elim, ⊎-map}
-use native.Mathlib.Decide.{ℕ-discrete}
-use native.Mathlib.Nat.{eq-or-lt-of-le, le-refl, le-of-suc-le-suc, suc-inj}
+use mathlib.Core.Logic.{_⊎_, inl, inr, ⊎-map}
+use native.Mathlib.Nat.{le-of-suc-le-suc, suc-inj}
 use native.Mathlib.Omega.{arith}
-use lib.ListN.{length, getD, set, length-set}
-use lib.Seq.{getD-set-same, getD-set-other}
+use lib.ListN.{length, getD}
 use Rattle.graph.specs.Link.{along, against, Linked, here, there}
 use Rattle.graph.proofs.Chains.{Relinks}
-use Rattle.fewest.specs.Lists.{linksOf, Leads, FirstLink, Listed}
-
--- One link more
-
--- a link is the first of its cell from itself on
-first-itself : (from : List ℕ) (i : ℕ) → FirstLink from (getD from i 0) i i
-first-itself from i = record { least = le-refl i; joins = λ _. refl; noneBefore = λ j le lt. absurd (omega arith) }
-
--- a link of another cell changes nothing
-first-earlier :
-    {from : List ℕ} {cell i link : ℕ} →
-    (getD from i 0 ≡ cell → ⊥) → FirstLink from cell (i + 1) link → FirstLink from cell i link
-first-earlier {from} {cell} {i} {link} other f = record { least = omega arith; joins = f .joins; noneBefore = before }
-  where
-    before : (j : ℕ) → i ≤ j → j < link → j < length from → getD from j 0 ≡ cell → ⊥
-    before j le lt within = ⊎-elim (λ e. rw (← e) other) (λ l. f .noneBefore j (omega arith) lt within) (eq-or-lt-of-le le)
-
-module _ {from first next : List ℕ} {i : ℕ} (l : Listed from (i + 1) first next) (within : i < length from) where
-  abbrev cell : ℕ
-  cell = getD from i 0
-
-  first-more : (c : ℕ) → c < length first → FirstLink from c i (getD (set first cell i) c 0)
-  first-more c h =
-      elim (ℕ-discrete cell c) [
-        | yes e ↦ rw (← e, getD-set-same first cell i 0 (l .inside i within)) (first-itself from i)
-        | no e ↦ rw (getD-set-other first cell c i 0 (λ f. e (sym f))) (first-earlier e (l .firstOf c h))
-      ]
-
-  next-more :
-      (j : ℕ) → i ≤ j → j < length from →
-      FirstLink from (getD from j 0) (j + 1) (getD (set next i (getD first cell 0)) j 0)
-  next-more j le h =
-      ⊎-elim
-      (λ e.
-      rw (← e, getD-set-same next i (getD first cell 0) 0 (omega (arith, l .enough)))
-      (l .firstOf cell (l .inside i within)))
-      (λ lt. rw (getD-set-other next i j (getD first cell 0) 0 (λ e. omega arith)) (l .nextOf j (omega arith) h))
-      (eq-or-lt-of-le le)
-
-  list-more : Listed from i (set first cell i) (set next i (getD first cell 0))
-  list-more =
-      record {
-        inside = λ j h. rw length-set (l .inside j h);
-        enough = rw length-set (l .enough);
-        firstOf = λ c h. first-more c (rw length-set at h);
-        nextOf = next-more;
-      }
-
--- a turn: the links from `link` on are listed, and then the one before it
-pub list-turn :
-    {from first next : List ℕ} {link cell : ℕ} →
-    Listed from link first next →
-    0 < link →
-    link ≤ length from →
-    cell ≡ getD from (link - 1) 0 →
-    (cell < length first) × Listed from (link - 1) (set first cell (link - 1)) (set next (link - 1) (getD first cell 0))
-list-turn {from} {first} {next} {link} l some within e =
-    let one : link ≡ link - 1 + 1 = omega arith in
-    rw e (l .inside (link - 1) (omega arith), list-more (rw one at l) (omega arith))
-
--- The links that the lists hold
+use Rattle.lists.proofs.Walk.{Walked, walk-ends}
+use Rattle.fewest.specs.Lists.{linksOf, Leads, OneWay}
 
 leads-more : {from to : List ℕ} {a b : ℕ} (x y : ℕ) → Leads from to a b → Leads (x ∷ from) (y ∷ to) a b
 leads-more x y p =
@@ -110,3 +46,27 @@ unfolding linksOf
 links-turn (x ∷ xs) (y ∷ ys) a b (here (along p q)) = here (against q p)
 links-turn (x ∷ xs) (y ∷ ys) a b (here (against p q)) = here (along q p)
 links-turn (x ∷ xs) (y ∷ ys) a b (there h) = there (links-turn xs ys a b h)
+
+-- Along the list of a cell
+
+-- the cell across a link
+pub across-inside :
+    {cells : ℕ} {from to first next : List ℕ} {link across : ℕ} →
+    OneWay cells from to first next → link < length from → across ≡ getD to link 0 → across < cells
+across-inside {link = link} lists more e = rw e (lists .across link (rw (lists .even) more))
+
+pub leads-inside :
+    {cells : ℕ} {from to first next : List ℕ} {a b : ℕ} →
+    OneWay cells from to first next → Leads from to a b → b < cells
+leads-inside lists p = across-inside lists (p .within) (sym (p .arrives))
+
+pub across-leads :
+    {from to : List ℕ} {cell link across : ℕ} {P : ℕ → Type 0} →
+    Walked from cell P link → link < length from → across ≡ getD to link 0 → Leads from to cell across
+across-leads {link = link} w more e = record { link = link; within = more; starts = w .has more; arrives = sym e }
+
+-- past the last link P holds of all cells across
+pub all-across :
+    (P : ℕ → Type 0) {from to : List ℕ} {cell link : ℕ} →
+    Walked from cell (λ i. P (getD to i 0)) link → length from ≤ link → (d : ℕ) → Leads from to cell d → P d
+all-across P w all d p = rw (p .arrives) at (walk-ends w all (p .link) (p .within) (p .starts))

@@ -8,30 +8,31 @@ use mathlib.Core.List.{List}
 use mathlib.Core.Logic.{_⊎_, inl, inr, ⊎-elim}
 use lib.ListN.{length, getD}
 use Rattle.graph.specs.Link.{Linked}
+use Rattle.lists.proofs.Walk.{Walked, walk-begins, walk-on, walked-map}
 use Rattle.fewest.specs.Lists.{linksOf, Leads, OneWay, BothWays}
 use Rattle.fewest.specs.Descent.{Smaller, Nearer, NextCell}
-use Rattle.fewest.proofs.LinkLists.{linked-leads, leads-linked, links-turn}
-use Rattle.fewest.proofs.Walking.{Walked, walk-begins, walk-on, walk-ends, walked-map, across-leads, leads-inside}
+use Rattle.fewest.proofs.LinkLists.{linked-leads, leads-linked, links-turn, across-leads, leads-inside, all-across}
 
 -- the walk along the cell's links has come to `link`, and found this cell
 pub record Finding (from to first next left : List ℕ) (cell number best found link : ℕ) : Type 0 where
   pub lists : OneWay (length left) from to first next
   pub low : found ≤ best
   pub is : (found ≡ best) ⊎ (Leads from to cell found × (getD left found 0 ≡ number))
-  pub walked : Walked from to cell (λ d. getD left d 0 ≡ number → found ≤ d) link
+  pub walked : Walked from cell (λ i. getD left (getD to i 0) 0 ≡ number → found ≤ getD to i 0) link
 
 pub finding-begins :
     {from to first next left : List ℕ} {cell number best link : ℕ} →
     OneWay (length left) from to first next →
     cell < length left → link ≡ getD first cell 0 → Finding from to first next left cell number best best link
 finding-begins {best = best} lists inside e =
-    record { lists = lists; low = le-refl best; is = inl refl; walked = walk-begins lists inside e }
+    record { lists = lists; low = le-refl best; is = inl refl; walked = walk-begins (lists .listed) inside e }
 
 pub finding-ends :
     {from to first next left : List ℕ} {cell number best found link : ℕ} →
     Finding from to first next left cell number best found link →
     length from ≤ link → Smaller from to left cell number best found
-finding-ends f all = record { low = f .low; is = f .is; least = walk-ends (f .walked) all }
+finding-ends {left = left} {number = number} {found = found} f all =
+    record { low = f .low; is = f .is; least = all-across (λ d. getD left d 0 ≡ number → found ≤ d) (f .walked) all }
 
 -- after the test of the cell across: it has the number, and the smaller of the two is kept; or it has another
 abbrev pub Tested : List ℕ → ℕ → ℕ → ℕ → ℕ → Type 0
@@ -54,8 +55,8 @@ finding-turns {found = found} {across = across} f more e (inl (has, is)) on =
           min-cases found across _ (λ le m. rw (is, m) (f .is))
           (λ le m. rw (is, m) (inr (across-leads (f .walked) more e, has)));
       walked =
-          walk-on (f .lists)
-          (walked-map (λ d low has. omega (arith, low has, min-le-left found across)) (f .walked))
+          walk-on (f .lists .listed)
+          (walked-map (λ i low has. omega (arith, low has, min-le-left found across)) (f .walked))
           more
           (λ has. omega (arith, min-le-right found across))
           on;
@@ -65,7 +66,7 @@ finding-turns f more e (inr (other, is)) on =
       lists = f .lists;
       low = rw is (f .low);
       is = rw is (f .is);
-      walked = rw is (walk-on (f .lists) (f .walked) more (λ has. absurd (other (rw e has))) on);
+      walked = rw is (walk-on (f .lists .listed) (f .walked) more (λ has. absurd (other (rw e has))) on);
     }
 
 -- Both sides

@@ -8,10 +8,10 @@ use mathlib.Core.List.{List}
 use mathlib.Core.Logic.{_⊎_, inl, inr}
 use lib.ListN.{length, getD, set, length-set}
 use Rattle.graph.specs.Link.{Linked}
+use Rattle.lists.proofs.Walk.{Walked, walk-begins, walk-on, walked-map}
 use Rattle.fewest.specs.Lists.{linksOf, Leads, OneWay}
 use Rattle.fewest.specs.Levels.{Known, numberIn, Searching, Ready, Reached}
-use Rattle.fewest.proofs.LinkLists.{leads-linked}
-use Rattle.fewest.proofs.Walking.{Walked, walk-begins, walk-on, walk-ends, walked-map, across-leads, across-inside}
+use Rattle.fewest.proofs.LinkLists.{leads-linked, across-leads, across-inside, all-across}
 use Rattle.fewest.proofs.Search.{search-more, in-queue-kept, number-kept, number-new, cell-kept, has-room}
 
 -- the state of the search during the walk from the cell at head
@@ -81,7 +81,7 @@ module _
 
 -- the cells across the links that are passed have their numbers
 abbrev pub Passed : List ℕ → List ℕ → ℕ → List ℕ → ℕ → Type 0
-Passed from to cell left link = Walked from to cell (Known left) link
+Passed from to cell left link = Walked from cell (λ i. Known left (getD to i 0)) link
 
 pub reach-begins :
     {from to first next left queue : List ℕ} {head tail cell number link : ℕ} →
@@ -103,7 +103,7 @@ reach-begins given is numbers e = (
     leftLong = refl;
     queueLong = refl;
   },
-  walk-begins (given .lists) (head-waits given is .1) e,
+  walk-begins (given .lists .listed) (head-waits given is .1) e,
 )
 
 -- after the test of the cell across: it had no number and got it, or it had one
@@ -142,7 +142,7 @@ module _
     tested (inl (fresh, p, q, f)) =
         rw (p, q, f, r .numbers) (
           reaching-more r leads reach-inside fresh,
-          walked-map (known-more r leads reach-inside fresh) w,
+          walked-map (λ i. known-more r leads reach-inside fresh (getD to i 0)) w,
           got r leads reach-inside fresh,
         )
     tested (inr (has, p, q, f)) = rw (p, q, f) (r, w, pos-of-ne-zero has)
@@ -156,17 +156,17 @@ module _
         × Passed from to cell left′ following
     reach-turns t f =
         let (r′, w′, known) = tested t in
-        (r′, walk-on (r′ .lists) w′ more (rw e at known) f)
+        (r′, walk-on (r′ .lists .listed) w′ more (rw e at known) f)
 
 pub reach-ends :
     {from to first next left₀ queue₀ left queue : List ℕ} {head cell number end link : ℕ} →
     Reaching from to first next head left₀ queue₀ cell number left queue end →
     Passed from to cell left link → length from ≤ link → Reached from to head left₀ queue₀ left queue end
-reach-ends r w all =
+reach-ends {left = left} r w all =
     record {
       some = r .some;
       searching = r .searching;
       kept = r .kept;
       place = r .place ∙ r .is;
-      reached = rw (← r .is) (walk-ends w all);
+      reached = rw (← r .is) (all-across (Known left) w all);
     }

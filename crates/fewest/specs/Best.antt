@@ -6,7 +6,8 @@ use mathlib.Core.List.{List}
 use lib.Dec.{leb}
 use lib.ListN.{length}
 use Rattle.graph.specs.Link.{Chained}
-use Rattle.fewest.specs.Lists.{linksOf, AllBelow}
+use Rattle.lists.specs.Listed.{AllBelow}
+use Rattle.fewest.specs.Lists.{linksOf}
 use Rattle.fewest.specs.Descent.{written}
 
 -- at most 4,096 links between 1,024 cells, which chain the two, and a buffer of 1,024 places

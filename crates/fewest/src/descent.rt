@@ -1,12 +1,12 @@
 // The best trail, from the first cell down: always on to the smallest cell across a link from which one cell fewer leads
 // on. Each cell's links are walked once, so the time is linear in cells and links.
+use lists::number_at;
 ghost use mathlib.Core.Path.{_≡_};
 ghost use Prim.Native.Nat.{ℕ, _<_, min};
 ghost use lib.ListN.{length};
 ghost use Rattle.graph.specs.Trail.{trailOf};
 ghost use Rattle.fewest.specs.Lists.{linksOf, OneWay, BothWays};
 ghost use Rattle.fewest.specs.Descent.{Smaller, Nearer, NextCell, Down, written};
-use super::lists::number_at;
 
 fn smaller(one: usize, other: usize) -> usize
     ensures { λ r. ⌜ r ≡ min one other ⌝ }

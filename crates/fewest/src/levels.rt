@@ -1,11 +1,11 @@
 // How many cells the best trail from each cell to the second cell has: found from the second cell on, level by level, in
 // time linear in cells and links, since each cell enters the queue once and its links are walked once.
+use lists::number_at;
 ghost use mathlib.Core.Path.{_≡_};
 ghost use Prim.Native.Nat.{_<_};
 ghost use lib.ListN.{length};
 ghost use Rattle.fewest.specs.Lists.{linksOf, BothWays};
 ghost use Rattle.fewest.specs.Levels.{Counted, Blank, Ready, Reached};
-use super::lists::number_at;
 
 // Gives each cell across a link of the queue's cell at `head`, read from one side, its number if it has none, and puts it
 // in the queue. Returns the queue's new end.

@@ -3,11 +3,10 @@
 // first cell always to the smallest cell one nearer.
 mod descent; // descent.rt: the best trail, from the first cell down
 mod levels; // levels.rt: how many cells lead on from each cell
-mod lists; // lists.rt: the links of each cell
 
 use descent::descend;
 use levels::count_cells;
-use lists::list_links;
+use lists::list_entries;
 ghost use Rattle.graph.specs.Trail.{trailOf};
 ghost use Rattle.fewest.specs.Lists.{linksOf, BothWays};
 ghost use Rattle.fewest.specs.Best.{Asked, Given};
@@ -20,20 +19,24 @@ pub fn best_trail(ones: &[u16], others: &[u16], one: u16, other: u16, chain: &mu
         ⌜ Given (trailOf (linksOf (now (ones .entry)) (now (others .entry))) one other) (now (chain .entry)) r
         (now (chain .exit)) ⌝ }
 {
-    // 4,096 is no link and ends a list: to begin with, all are empty.
-    let mut first_one = [4096u16; 1024];
-    let mut next_one = [4096u16; 4096];
-    list_links(ones, &mut first_one, &mut next_one);
-    let mut first_other = [4096u16; 1024];
-    let mut next_other = [4096u16; 4096];
-    list_links(others, &mut first_other, &mut next_other);
+    // The number of links ends a list: to begin with, all are empty.
+    let links = ones.len();
+    let end = links as u16;
+    let mut first_one = [end; 1024];
+    let mut places_one = [0u16; 4096];
+    let next_one = &mut places_one[..links];
+    list_entries(ones, &mut first_one, next_one);
+    let mut first_other = [end; 1024];
+    let mut places_other = [0u16; 4096];
+    let next_other = &mut places_other[..links];
+    list_entries(others, &mut first_other, next_other);
     trail_over(
         ones,
         others,
         &first_one,
-        &next_one,
+        next_one,
         &first_other,
-        &next_other,
+        next_other,
         one,
         other,
         chain,

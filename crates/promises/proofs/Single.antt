@@ -1,8 +1,10 @@
--- For each public contract, two results that it allows are equal. Every contract but one is an equality with a definition, of the
--- result or of each of its parts. The crossing's says of yes and of no what each means, and the two exclude each other.
+-- For each public contract, two results that it allows are equal. Every contract but two is an equality with a definition, of the
+-- result or of each of its parts. The crossing's says of yes and of no what each means, and the two exclude each other; that of
+-- the lists says of each place which entry stands there, and there is one.
 use Prim.Native.Nat.{ℕ}
-use mathlib.Core.Path.{_≡_, sym, _∙_}
+use mathlib.Core.Path.{_≡_, refl, sym, _∙_}
 use mathlib.Core.List.{List}
+use Rattle.lists.proofs.Listing.{one-listing}
 use Rattle.crossing.proofs.Joined.{one-answer}
 use Rattle.book.specs.declared.Answer.{Answer}
 use Rattle.book.specs.Calls.{Outcome, Gives}
@@ -80,5 +82,7 @@ single =
       sound = λ parent size most. equal;
       all-within = λ numbers low end. equal;
       labels-within = λ label bound. equal;
+      number-at = λ list place. equal;
+      list-entries = λ keys first r s p q. let e = one-listing p q in both r s (e .0, e .1) (refl, refl);
       joined-across = λ backward forward one other. one-answer;
     }

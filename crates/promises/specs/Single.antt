@@ -3,7 +3,7 @@
 use Prim.Native.Nat.{ℕ}
 use mathlib.Core.Path.{_≡_}
 use mathlib.Core.List.{List, _++_, reverse}
-use lib.ListN.{length, drop, replicate}
+use lib.ListN.{length, getD, drop, replicate}
 use Rattle.settings.specs.Settings.{settingsNumber}
 use Rattle.settings.specs.declared.Settings.{Settings}
 use Rattle.cells.specs.Cell.{mirror, lorryCell}
@@ -13,6 +13,7 @@ use Rattle.forest.specs.Arrays.{freshParents, freshSizes, freshLabels, walkOf, 
 use Rattle.uniting.specs.United.{hangOf, hungParents, hungSizes, hungLabels, United}
 use Rattle.uniting.specs.declared.Hang.{Hang}
 use Rattle.soundness.specs.Sound.{every, within, soundOf, labelsWithin}
+use Rattle.lists.specs.Listed as lists
 use Rattle.crossing.specs.Across.{JoinedAcross}
 use Rattle.linkfile.specs.Format.{readOf, writeNumber, outputOf, wordAt}
 use Rattle.listing.specs.declared.Played.{Played}
@@ -114,5 +115,9 @@ pub record Single : Type 0 where
   pub sound : (parent size : List ℕ) (most : ℕ) → AtMostOne (λ r. r ≡ soundOf parent size most)
   pub all-within : (numbers : List ℕ) (low end : ℕ) → AtMostOne (λ r. r ≡ every (within low end) 0 numbers)
   pub labels-within : (label : List ℕ) (bound : ℕ) → AtMostOne (λ r. r ≡ labelsWithin label bound)
+  -- lists
+  pub number-at : (list : List ℕ) (place : ℕ) → AtMostOne (λ r. r ≡ getD list place 0)
+  pub list-entries : (keys first : List ℕ) →
+      AtMostOne {A = List ℕ × List ℕ} (λ r. lists.Listed keys (length first) 0 (r .0) (r .1))
   -- crossing
   pub joined-across : (backward forward : List ℕ) (one other : ℕ) → AtMostOne (JoinedAcross backward forward one other)

@@ -17,7 +17,8 @@ use Rattle.window.specs.Gathered.{onesOf, othersOf, labelsOf}
 use Rattle.window.specs.Falls.{Falls, none, next}
 use Rattle.window.proofs.Falling.{falls-none}
 use Rattle.window.proofs.Gathered.{Fronts}
-use Rattle.fewest.specs.Lists.{linksOf, AllBelow}
+use Rattle.lists.specs.Listed.{AllBelow}
+use Rattle.fewest.specs.Lists.{linksOf}
 use Rattle.fewest.specs.Best.{Asked}
 use Rattle.trail.specs.Front.{frontOf, sideFrom}
 

@@ -10,7 +10,7 @@ use borrow.Fn.Kinds.{In}
 use borrow.Fn.PlainCycle.{Measures, is, falls, and}
 use Rattle.crossing.proofs.Passing.{Passing, passing-begins, shared-inside, passing-asks, crossed-already, passing-turns, rises, passed-all}
 use Rattle.crossing.proofs.Unmarked.{unmarked}
-use Rattle.crossing.proofs.number_at.Reads as number-at
+use Rattle.lists.proofs.number_at.Reads as number-at
 use Rattle.crossing.proofs.from_backward.Reads as crossing
 use Rattle.crossing.proofs.from_backward.Kinds as kinds
 use Rattle.crossing.proofs.+from_backward+from_forward.Lts-from_backward as backward

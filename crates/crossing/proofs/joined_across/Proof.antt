@@ -3,31 +3,35 @@
 use borrow.Author.Needs.{needs}
 use Prim.Native.Nat.{_<_}
 use native.Mathlib.Omega.{arith}
-use Rattle.crossing.proofs.Lists.{keyed-inside}
-use Rattle.crossing.proofs.Joined.{none-listed, begins-unmarked, mark-answers}
+use Rattle.lists.proofs.Listing.{none-listed, same-bound}
+use Rattle.crossing.proofs.Joined.{begins-unmarked, mark-answers}
 use Rattle.crossing.proofs.joined_across.Statement.{statement}
 use Rattle.crossing.proofs.joined_across.Tie as tie
 
 -- the two cells' groups have marks
 start-inside : (c : tie.After-number-at) → c .number-at .result < 1024
-start-inside c = omega (arith, keyed-inside (c .before .before .pre .0) (omega arith) (c .number-at .ensures))
+start-inside c = let given = c .before .before in omega (arith, c .number-at .ensures, given .pre .0 .inside (given .args .one) (omega arith))
 
 asked-inside : (c : tie.After-number-at2) → c .number-at2 .result < 1024
-asked-inside c = omega (arith, keyed-inside (c .before .before .before .before .pre .0) (omega arith) (c .number-at2 .ensures))
+asked-inside c = let given = c .before .before .before .before in omega (arith, c .number-at2 .ensures, given .pre .0 .inside (given .args .other) (omega arith))
 
-list-groups-requires : tie.Need-list-groups-requires
-list-groups-requires c κs = (c .before .before .before .before .before .before .before .pre .0, (omega arith, none-listed 1024 (omega arith)))
+list-entries-requires : tie.Need-list-entries-requires
+list-entries-requires c κs =
+    let given = c .before .before .before .before .before .before .before in
+    (omega arith, none-listed 1024 (λ i h. omega (arith, given .pre .0 .inside i h)) (omega arith) (omega arith))
 
-list-groups-requires-2 : tie.Need-list-groups-requires-2
-list-groups-requires-2 c κs = (c .before .before .before .before .before .before .before .before .before .before .before .before .before .pre .1 .0, (omega arith, none-listed 1024 (omega arith)))
+list-entries-requires-2 : tie.Need-list-entries-requires-2
+list-entries-requires-2 c κs =
+    let given = c .before .before .before .before .before .before .before .before .before .before .before .before .before in
+    (omega arith, none-listed 1024 (λ i h. omega (arith, given .pre .1 .0 .inside i h)) (omega arith) (omega arith))
 
 from-backward-requires : tie.Need-from-backward-requires
 from-backward-requires c κs =
     let groups = c .before .before .before .before .before .before .before .before .before .before .before .before .before .before .before .before .before .before .before .before in
     let given = groups .before .before .before .before in (
       record {
-        ownSide = record { keyed = given .pre .0; listed = c .before .before .before .before .before .before .before .before .before .before .before .before .before .before .before .before .list-groups .ensures; marked = omega (arith, given .good) };
-        otherSide = record { keyed = given .pre .1 .0; listed = c .before .before .before .before .before .before .before .before .before .before .list-groups2 .ensures; marked = omega (arith, given .good) };
+        ownSide = record { listed = same-bound (omega (arith, given .good)) (c .before .before .before .before .before .before .before .before .before .before .before .before .before .before .before .before .list-entries .ensures); marked = omega (arith, given .good) };
+        otherSide = record { listed = same-bound (omega (arith, given .good)) (c .before .before .before .before .before .before .before .before .before .before .list-entries2 .ensures); marked = omega (arith, given .good) };
         even = omega (arith, given .good);
       },
       begins-unmarked 1024 (omega (arith, given .good, start-inside (groups .before .before))),
@@ -47,10 +51,10 @@ joined-across-spec =
     (λ c κs. search needs)
     (λ c. search needs)
     (λ c. search needs)
-    list-groups-requires
+    list-entries-requires
     (λ c. search needs)
     (λ c. search needs)
-    list-groups-requires-2
+    list-entries-requires-2
     (λ c. search needs)
     (λ c. search needs)
     (λ c. search needs)

@@ -1,27 +1,34 @@
 -- `fewest::best_trail` meets its contract: the lists begin empty (`none-listed`), and then hold the links of both sides.
+use mathlib.Core.Path.{refl, sym, _∙_}
 use native.Mathlib.Omega.{arith}
 use borrow.Author.Needs.{needs}
-use Rattle.fewest.proofs.BestTrail.{none-listed, both-ways}
+use Rattle.lists.proofs.Listing.{none-listed, same-bound}
+use Rattle.fewest.proofs.BestTrail.{places-long, both-ways}
 use Rattle.fewest.proofs.best_trail.Statement.{statement}
 use Rattle.fewest.proofs.best_trail.Tie as tie
 
-list-links-requires : tie.Need-list-links-requires
-list-links-requires c κs =
-    let given = c .before .before .before .before .before .pre in
-    (omega (arith, given .few), none-listed 1024 4096 (given .few) (given .onesInside))
+slice-aggregate-next-one : tie.Need-slice-aggregate-next-one
+slice-aggregate-next-one c = sym (places-long _ (c .before .before .before .before .pre .few))
 
-list-links-requires-2 : tie.Need-list-links-requires-2
-list-links-requires-2 c κs =
-    let given = c .before .before .before .before .before .before .before .before .before .before .pre in
-    (omega (arith, given .few, given .even), none-listed 1024 4096 (rw (given .even) (given .few)) (given .othersInside))
+list-entries-requires : tie.Need-list-entries-requires
+list-entries-requires c κs =
+    let given = c .before .before .before .before .before .before .pre in
+    (omega (arith, given .few), none-listed 1024 (given .onesInside) (places-long _ (given .few)) refl)
+
+slice-aggregate-next-other : tie.Need-slice-aggregate-next-other
+slice-aggregate-next-other c = sym (places-long _ (c .before .before .before .before .before .before .before .before .before .before .before .pre .few))
+
+list-entries-requires-2 : tie.Need-list-entries-requires-2
+list-entries-requires-2 c κs =
+    let given = c .before .before .before .before .before .before .before .before .before .before .before .before .before .pre in
+    (omega (arith, given .few, given .even), none-listed 1024 (given .othersInside) (places-long _ (given .few) ∙ sym (given .even)) (sym (given .even)))
 
 trail-over-requires : tie.Need-trail-over-requires
 trail-over-requires c κs =
-    let listed = c .before .before .before .before .before .before .before in
-    let back = listed .list-links2 in
-    let forth = listed .before .before .before .before .before .list-links in
-    let given = listed .before .before .before .before .before .before .before .before .before .before .before .pre in
-    (given, both-ways given (forth .ensures) (forth .kept .1 .0) (back .ensures) (back .kept .1 .0))
+    let back = c .before .before .before .before .before .before .before .before in
+    let forth = back .before .before .before .before .before .before .before in
+    let given = forth .before .before .before .before .before .before .before .pre in
+    (given, both-ways given (same-bound (omega arith) (forth .list-entries .ensures)) (same-bound (omega arith) (back .list-entries2 .ensures)))
 
 pub best-trail-spec : {M : Type 1} → statement M
 best-trail-spec =
@@ -29,12 +36,13 @@ best-trail-spec =
     (tie.spec
     (λ c. search needs)
     (λ c. search needs)
-    list-links-requires
+    slice-aggregate-next-one
     (λ c. search needs)
+    list-entries-requires
     (λ c. search needs)
-    list-links-requires-2
+    slice-aggregate-next-other
     (λ c. search needs)
-    (λ c. search needs)
+    list-entries-requires-2
     (λ c. search needs)
     (λ c. search needs)
     trail-over-requires

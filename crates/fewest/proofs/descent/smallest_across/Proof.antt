@@ -6,7 +6,8 @@ use mathlib.Core.Logic.{⊎-map}
 use native.Mathlib.Omega.{arith}
 use borrow.Author.Needs.{needs}
 use lib.ListN.{length}
-use Rattle.fewest.proofs.Walking.{link-rises, across-inside}
+use Rattle.lists.proofs.Walk.{entry-rises}
+use Rattle.fewest.proofs.LinkLists.{across-inside}
 use Rattle.fewest.proofs.Nearest.{Finding, finding-begins, finding-turns, finding-ends}
 use Rattle.fewest.proofs.descent.smallest_across.Statement.{statement}
 use Rattle.fewest.proofs.descent.smallest_across.Tie as tie
@@ -21,7 +22,7 @@ abbrev μ-loop : tie.MeasureT-loop
 number-at-requires : tie.Need-number-at-requires Inv-loop μ-loop
 number-at-requires c κs =
     let given = c .before .before .before .before .before .pre in
-    rw (given .0 .long) (given .1)
+    rw (given .0 .listed .firstLong) (given .1)
 
 loop-holds : tie.Need-loop-holds Inv-loop μ-loop
 loop-holds c =
@@ -38,12 +39,12 @@ number-at-requires-3 c κs =
 number-at-requires-4 : tie.Need-number-at-requires-4 Inv-loop μ-loop
 number-at-requires-4 c κs =
     let at = c .before .before .before in
-    omega (arith, at .before .loop .inv .lists .listed .enough, at .loop-test .taken)
+    omega (arith, at .before .loop .inv .lists .listed .nextLong, at .loop-test .taken)
 
 loop-less : tie.Need-loop-less Inv-loop μ-loop
 loop-less c =
     let at = c .before .before .before .before in
-    omega (arith, link-rises (at .before .loop .inv .lists) (at .loop-test .taken) (c .number-at4 .ensures), at .loop-test .taken)
+    omega (arith, entry-rises (at .before .loop .inv .lists .listed) (at .loop-test .taken) (c .number-at4 .ensures), at .loop-test .taken)
 
 loop-again : tie.Need-loop-again Inv-loop μ-loop
 loop-again c =

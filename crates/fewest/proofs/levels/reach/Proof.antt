@@ -5,7 +5,7 @@ use mathlib.Core.Path.{refl}
 use mathlib.Core.Logic.{⊎-map}
 use native.Mathlib.Omega.{arith}
 use lib.ListN.{length, getD}
-use Rattle.fewest.proofs.Walking.{link-rises}
+use Rattle.lists.proofs.Walk.{entry-rises}
 use Rattle.fewest.proofs.Reach.{Reaching, Passed, head-waits, reach-begins, reach-inside, reach-room, reach-turns, reach-ends}
 use Rattle.fewest.proofs.levels.reach.Statement.{statement}
 use Rattle.fewest.proofs.levels.reach.Tie as tie
@@ -55,7 +55,7 @@ add-number c = omega (arith, head-facts (c .before))
 number-at-requires-2 : tie.Need-number-at-requires-2 Inv-loop μ-loop
 number-at-requires-2 c κs =
     let lists = c .before .before .before .before .before .before .before .before .before .pre .lists in
-    rw (lists .long) (head-facts (c .before) .1)
+    rw (lists .listed .firstLong) (head-facts (c .before) .1)
 
 loop-holds : tie.Need-loop-holds Inv-loop μ-loop
 loop-holds c =
@@ -66,12 +66,12 @@ number-at-requires-3 : tie.Need-number-at-requires-3 Inv-loop μ-loop
 number-at-requires-3 c κs = rw (c .before .loop .inv .0 .lists .even) (c .loop-test .taken)
 
 number-at-requires-4 : tie.Need-number-at-requires-4 Inv-loop μ-loop
-number-at-requires-4 c κs = omega (arith, c .before .before .before .before .loop .inv .0 .lists .listed .enough)
+number-at-requires-4 c κs = omega (arith, c .before .before .before .before .loop .inv .0 .lists .listed .nextLong)
 
 loop-less : tie.Need-loop-less Inv-loop μ-loop
 loop-less c =
     let at = c .before .before .before .before in
-    let later = link-rises (at .before .loop .inv .0 .lists) (at .loop-test .taken) (c .number-at4 .ensures) in
+    let later = entry-rises (at .before .loop .inv .0 .lists .listed) (at .loop-test .taken) (c .number-at4 .ensures) in
     omega (arith, later, at .loop-test .taken)
 
 loop-again : tie.Need-loop-again Inv-loop μ-loop

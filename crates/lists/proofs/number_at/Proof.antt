@@ -1,8 +1,8 @@
--- `fewest::lists::number_at` meets its contract: what stands in a list of 16-bit numbers fits.
+-- `lists::number_at` meets its contract: what stands in a list of 16-bit numbers fits.
 use borrow.Author.Needs.{needs}
 use native.Mathlib.Omega.{arith}
-use Rattle.fewest.proofs.lists.number_at.Statement.{statement}
-use Rattle.fewest.proofs.lists.number_at.Tie as tie
+use Rattle.lists.proofs.number_at.Statement.{statement}
+use Rattle.lists.proofs.number_at.Tie as tie
 
 cast-result : tie.Need-cast-result
 cast-result c = omega (arith, c .shared-slice-known .given (c .before .args .place))
