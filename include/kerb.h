@@ -78,9 +78,10 @@ struct kerb_book {
     uint8_t mounting;
 };
 
-/* What opening, link and clock give. */
-struct kerb_answer {
-    struct kerb_book book;
+/* What opening, link and clock give: the book's clock and mounting after the call, and the number. */
+struct kerb_lent {
+    struct kerb_clock clock;
+    uint8_t mounting;
     uint8_t number;
 };
 
@@ -108,15 +109,26 @@ struct kerb_listed {
     uint8_t number;
 };
 
-/* The proved functions of libpanel.a. Those over a book take it and give it by value; see below for the others. */
+/* The proved functions of libpanel.a over a book, which is lent to them field by field, where it stands, or by value. A caller wants
+ * the calls at the end of this file, which put a book's fields in order. */
 struct kerb_book kerb_value_never_opened(void);
-struct kerb_answer kerb_value_opening(struct kerb_book book, uint16_t *log, size_t log_len, struct kerb_settings settings);
-struct kerb_answer kerb_value_link(struct kerb_book book, uint16_t *log, size_t log_len, uint32_t tick, uint16_t one,
-                                   uint16_t other);
-struct kerb_answer kerb_value_clock(struct kerb_book book, const uint16_t *log, size_t log_len, uint32_t tick);
-struct kerb_joined kerb_value_joined(struct kerb_book book, uint16_t one, uint16_t other);
+struct kerb_lent kerb_lent_opening(struct kerb_clock clock, uint8_t mounting, uint16_t *counts,
+    uint16_t *forward_parent, uint16_t *forward_size, uint16_t *backward_parent,
+    uint16_t *backward_size, uint8_t *backward_label, uint16_t *log, size_t log_len,
+    struct kerb_settings settings);
+struct kerb_lent kerb_lent_link(struct kerb_clock clock, uint8_t mounting, uint16_t *counts,
+    uint16_t *forward_parent, uint16_t *forward_size, uint16_t *backward_parent,
+    uint16_t *backward_size, uint8_t *backward_label, uint16_t *log, size_t log_len, uint32_t tick,
+    uint16_t one, uint16_t other);
+struct kerb_lent kerb_lent_clock(struct kerb_clock clock, uint8_t mounting, uint16_t *counts,
+    uint16_t *forward_parent, uint16_t *forward_size, uint16_t *backward_parent,
+    uint16_t *backward_size, uint8_t *backward_label, const uint16_t *log, size_t log_len,
+    uint32_t tick);
+struct kerb_joined kerb_lent_joined(struct kerb_clock clock, uint8_t mounting, const uint16_t *counts,
+    const uint16_t *forward_parent, const uint16_t *forward_size, const uint16_t *backward_parent,
+    const uint16_t *backward_size, const uint8_t *backward_label, uint16_t one, uint16_t other);
 struct kerb_chain kerb_value_chain(struct kerb_book book, const uint16_t *log, size_t log_len, uint16_t one, uint16_t other,
-                                   uint16_t *chain, size_t chain_len);
+    uint16_t *chain, size_t chain_len);
 
 /* The settings of a link file, and its number of records. */
 struct kerb_reading kerb_read(const uint8_t *file, size_t file_len);
@@ -141,32 +153,40 @@ static inline void kerb_never_opened(struct kerb_book *book)
 /* A fresh history, whatever the book was; clears the first 16,384 places of the log. Gives 0, KERB_SETTINGS or KERB_SHORT. */
 static inline uint8_t kerb_opening(struct kerb_book *book, uint16_t *log, size_t log_len, struct kerb_settings settings)
 {
-    const struct kerb_answer answer = kerb_value_opening(*book, log, log_len, settings);
-    *book = answer.book;
+    const struct kerb_lent answer = kerb_lent_opening(book->clock, book->mounting, book->counts, book->forward_parent,
+        book->forward_size, book->backward_parent, book->backward_size, book->backward_label, log, log_len, settings);
+    book->clock = answer.clock;
+    book->mounting = answer.mounting;
     return answer.number;
 }
 
 /* A link of two cells, in the unit's numbers, at a tick. */
 static inline uint8_t kerb_link(struct kerb_book *book, uint16_t *log, size_t log_len, uint32_t tick, uint16_t one,
-                                uint16_t other)
+    uint16_t other)
 {
-    const struct kerb_answer answer = kerb_value_link(*book, log, log_len, tick, one, other);
-    *book = answer.book;
+    const struct kerb_lent answer = kerb_lent_link(book->clock, book->mounting, book->counts, book->forward_parent,
+        book->forward_size, book->backward_parent, book->backward_size, book->backward_label, log, log_len, tick, one,
+        other);
+    book->clock = answer.clock;
+    book->mounting = answer.mounting;
     return answer.number;
 }
 
 /* The time moves to the tick, and nothing is logged. */
 static inline uint8_t kerb_clock(struct kerb_book *book, const uint16_t *log, size_t log_len, uint32_t tick)
 {
-    const struct kerb_answer answer = kerb_value_clock(*book, log, log_len, tick);
-    *book = answer.book;
+    const struct kerb_lent answer = kerb_lent_clock(book->clock, book->mounting, book->counts, book->forward_parent,
+        book->forward_size, book->backward_parent, book->backward_size, book->backward_label, log, log_len, tick);
+    book->clock = answer.clock;
+    book->mounting = answer.mounting;
     return answer.number;
 }
 
 /* Whether links of the window join the two cells, in the lorry's numbers. */
 static inline struct kerb_joined kerb_joined(const struct kerb_book *book, uint16_t one, uint16_t other)
 {
-    return kerb_value_joined(*book, one, other);
+    return kerb_lent_joined(book->clock, book->mounting, book->counts, book->forward_parent, book->forward_size,
+        book->backward_parent, book->backward_size, book->backward_label, one, other);
 }
 
 /* Why, and for how long: the chain from the first cell to the second, in the lorry's numbers. */

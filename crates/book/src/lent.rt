@@ -66,7 +66,15 @@ pub fn link(
         log,
         tick,
     );
-    store(moved, counts, forward_parent, forward_size, log, first, second);
+    store(
+        moved,
+        counts,
+        forward_parent,
+        forward_size,
+        log,
+        first,
+        second,
+    );
     LentAnswer {
         clock: moved,
         mounting,

@@ -1,18 +1,21 @@
 // The interface for C and Rust: each call of the library under a plain name, over `#[repr(C)]` structs, a slice as a pointer and
-// then a length. Every call promises what its definition says, for every input. The book goes in and comes out by value;
-// include/kerb.h and rust/kerb have the same calls over a book that stays where it is.
-use book::Answer;
+// then a length. Every call promises what its definition says, for every input. Calls that change a book, and joined, are lent its
+// fields where they stand, so that no copy of the book is made; include/kerb.h and rust/kerb put them together again, as calls
+// over one book.
+use book::lent;
+use book::lent::LentAnswer;
 use joined::JoinedAnswer;
 use linkfile::Reading;
 use listing::Listed;
 use settings::Settings;
+use slides::Clock;
 use state::Book;
 use trail::ChainAnswer;
 ghost use mathlib.Core.Path.{_≡_};
 ghost use lib.ListN.{length};
-ghost use Rattle.state.specs.Order.{neverOpened};
+ghost use Rattle.state.specs.Order.{neverOpened, bookOf};
 ghost use Rattle.joined.specs.Joined.{joinedOf};
-ghost use Rattle.book.specs.Calls.{Gives, openingOf, linkOf, clockOf};
+ghost use Rattle.book.specs.Calls.{GivesLent, openingOf, linkOf, clockOf};
 ghost use Rattle.trail.specs.Chain.{chainOf, GivesChain};
 ghost use Rattle.linkfile.specs.Format.{readOf, writeNumber, outputOf};
 ghost use Rattle.listing.specs.Listing.{listingOf, Lists};
@@ -27,40 +30,126 @@ pub extern "C" fn kerb_value_never_opened() -> Book
 
 // A fresh history, whatever the book was.
 #[no_mangle]
-pub extern "C" fn kerb_value_opening(book: Book, log: &mut [u16], s: Settings) -> Answer
-    ensures { λ r. ⌜ Gives (openingOf book (now (log .entry)) s) r (now (log .exit)) ⌝ }
+pub extern "C" fn kerb_lent_opening(
+    clock: Clock,
+    mounting: u8,
+    counts: &mut [u16; 32],
+    forward_parent: &mut [u16; 1024],
+    forward_size: &mut [u16; 1024],
+    backward_parent: &mut [u16; 1024],
+    backward_size: &mut [u16; 1024],
+    backward_label: &mut [u8; 1024],
+    log: &mut [u16],
+    s: Settings,
+) -> LentAnswer
+    ensures { λ r. ⌜ GivesLent (openingOf (bookOf clock mounting (now (counts .entry)) (now («forward_parent» .entry)) (now («forward_size» .entry)) (now («backward_parent» .entry)) (now («backward_size» .entry)) (now («backward_label» .entry))) (now (log .entry)) s) r (now (counts .exit)) (now («forward_parent» .exit)) (now («forward_size» .exit)) (now («backward_parent» .exit)) (now («backward_size» .exit)) (now («backward_label» .exit)) (now (log .exit)) ⌝ }
 {
-    book::opening(book, log, s)
+    lent::opening(
+        clock,
+        mounting,
+        counts,
+        forward_parent,
+        forward_size,
+        backward_parent,
+        backward_size,
+        backward_label,
+        log,
+        s,
+    )
 }
 
 // A link of two cells of the unit.
 #[no_mangle]
-pub extern "C" fn kerb_value_link(
-    book: Book,
+pub extern "C" fn kerb_lent_link(
+    clock: Clock,
+    mounting: u8,
+    counts: &mut [u16; 32],
+    forward_parent: &mut [u16; 1024],
+    forward_size: &mut [u16; 1024],
+    backward_parent: &mut [u16; 1024],
+    backward_size: &mut [u16; 1024],
+    backward_label: &mut [u8; 1024],
     log: &mut [u16],
     tick: u32,
     one: u16,
     other: u16,
-) -> Answer
-    ensures { λ r. ⌜ Gives (linkOf book (now (log .entry)) tick one other) r (now (log .exit)) ⌝ }
+) -> LentAnswer
+    ensures { λ r. ⌜ GivesLent (linkOf (bookOf clock mounting (now (counts .entry)) (now («forward_parent» .entry)) (now («forward_size» .entry)) (now («backward_parent» .entry)) (now («backward_size» .entry)) (now («backward_label» .entry))) (now (log .entry)) tick one other) r (now (counts .exit)) (now («forward_parent» .exit)) (now («forward_size» .exit)) (now («backward_parent» .exit)) (now («backward_size» .exit)) (now («backward_label» .exit)) (now (log .exit)) ⌝ }
 {
-    book::link(book, log, tick, one, other)
+    lent::link(
+        clock,
+        mounting,
+        counts,
+        forward_parent,
+        forward_size,
+        backward_parent,
+        backward_size,
+        backward_label,
+        log,
+        tick,
+        one,
+        other,
+    )
 }
 
 // The time moves to the tick, and nothing is logged.
 #[no_mangle]
-pub extern "C" fn kerb_value_clock(book: Book, log: &[u16], tick: u32) -> Answer
-    ensures { λ r. ⌜ Gives (clockOf book (now (log .entry)) tick) r (now (log .entry)) ⌝ }
+pub extern "C" fn kerb_lent_clock(
+    clock: Clock,
+    mounting: u8,
+    counts: &mut [u16; 32],
+    forward_parent: &mut [u16; 1024],
+    forward_size: &mut [u16; 1024],
+    backward_parent: &mut [u16; 1024],
+    backward_size: &mut [u16; 1024],
+    backward_label: &mut [u8; 1024],
+    log: &[u16],
+    tick: u32,
+) -> LentAnswer
+    ensures { λ r. ⌜ GivesLent (clockOf (bookOf clock mounting (now (counts .entry)) (now («forward_parent» .entry)) (now («forward_size» .entry)) (now («backward_parent» .entry)) (now («backward_size» .entry)) (now («backward_label» .entry))) (now (log .entry)) tick) r (now (counts .exit)) (now («forward_parent» .exit)) (now («forward_size» .exit)) (now («backward_parent» .exit)) (now («backward_size» .exit)) (now («backward_label» .exit)) (now (log .entry)) ⌝ }
 {
-    book::clock(book, log, tick)
+    lent::clock(
+        clock,
+        mounting,
+        counts,
+        forward_parent,
+        forward_size,
+        backward_parent,
+        backward_size,
+        backward_label,
+        log,
+        tick,
+    )
 }
 
 // Whether the window's links join the two cells, and the steps of the walks.
 #[no_mangle]
-pub extern "C" fn kerb_value_joined(book: Book, one: u16, other: u16) -> JoinedAnswer
-    ensures { λ r. ⌜ r ≡ joinedOf book one other ⌝ }
+pub extern "C" fn kerb_lent_joined<'a>(
+    clock: Clock,
+    mounting: u8,
+    counts: &'a [u16; 32],
+    forward_parent: &'a [u16; 1024],
+    forward_size: &'a [u16; 1024],
+    backward_parent: &'a [u16; 1024],
+    backward_size: &'a [u16; 1024],
+    backward_label: &'a [u8; 1024],
+    one: u16,
+    other: u16,
+) -> JoinedAnswer
+    ensures { λ r. ⌜ r ≡ joinedOf (bookOf clock mounting (now (counts .entry)) (now («forward_parent» .entry)) (now («forward_size» .entry)) (now («backward_parent» .entry)) (now («backward_size» .entry)) (now («backward_label» .entry))) one other ⌝ }
 {
-    joined::joined(book, one, other)
+    joined::lent(
+        clock,
+        mounting,
+        counts,
+        forward_parent,
+        forward_size,
+        backward_parent,
+        backward_size,
+        backward_label,
+        one,
+        other,
+    )
 }
 
 // The chain goes to the front of the buffer.

@@ -8,7 +8,7 @@ use Rattle.lists.proofs.Listing.{one-listing}
 use Rattle.crossing.proofs.Joined.{one-answer}
 use Rattle.book.specs.declared.Answer.{Answer}
 use Rattle.book.specs.Calls.{Outcome, Gives}
-use Rattle.promises.specs.Single.{AtMostOne, Single}
+use Rattle.promises.specs.Single.{AtMostOne, LentGives, Single}
 
 -- two that equal a third
 equal : {A : Type 0} {x : A} → AtMostOne (λ r. r ≡ x)
@@ -21,6 +21,21 @@ both r s p q = λ i. (equal (r .0) (s .0) (p .0) (q .0) i, equal (r .1) (s .1) (
 gives : (o : Outcome) → AtMostOne {A = Answer × List ℕ} (λ r. Gives o (r .0) (r .1))
 gives o r s p q = both r s (p .answered, p .logged) (q .answered, q .logged)
 
+lent-gives : (o : Outcome) → AtMostOne (LentGives o)
+lent-gives o r s p q = λ i.
+    (let a = equal _ _ (p .answered) (q .answered) i in
+    let b = a .book in
+    (
+      record { clock = b .clock; mounting = b .mounting; number = a .number },
+      b .counts,
+      b .«forward_parent»,
+      b .«forward_size»,
+      b .«backward_parent»,
+      b .«backward_size»,
+      b .«backward_label»,
+      equal (r .7) (s .7) (p .logged) (q .logged) i,
+    ))
+
 pub single : Single
 single =
     record {
@@ -29,11 +44,22 @@ single =
       spot = λ clock slide. equal;
       stored = λ clock counts slide. equal;
       clear = λ places count. equal;
-      fresh-book = λ clock mounting. equal;
-      moved-to = λ b log tick. equal;
+      freshen = λ r s p q i. (
+        equal (r .0) (s .0) (p .forward-parents) (q .forward-parents) i,
+        equal (r .1) (s .1) (p .forward-sizes) (q .forward-sizes) i,
+        equal (r .2) (s .2) (p .backward-parents) (q .backward-parents) i,
+        equal (r .3) (s .3) (p .backward-sizes) (q .backward-sizes) i,
+        equal (r .4) (s .4) (p .backward-labels) (q .backward-labels) i,
+      );
+      move-to = λ clock counts fp fs bp bs bl log tick r s p q i. (
+        let b = equal _ _ (p 0) (q 0) i in
+        (b .clock, b .counts, b .«forward_parent», b .«forward_size», b .«backward_parent», b .«backward_size», b .«backward_label»));
       opening = λ b log s. gives _;
       link = λ b log tick one other. gives _;
       clock = λ b log tick r s p q. equal r s (p .answered) (q .answered);
+      lent-opening = λ b log s. lent-gives _;
+      lent-link = λ b log tick one other. lent-gives _;
+      lent-clock = λ b log tick. lent-gives _;
       joined = λ b one other. equal;
       gather = λ b log ones others labels r s p q i. (
         equal (r .0) (s .0) (p .until) (q .until) i,

@@ -22,15 +22,16 @@ use Rattle.listing.specs.Play.{Plays, playFrom}
 use Rattle.listing.specs.Listing.{Lists, listingOf}
 use Rattle.state.specs.declared.Book.{Book}
 use Rattle.book.specs.declared.Answer.{Answer}
+use Rattle.book.specs.declared.lent.LentAnswer.{LentAnswer}
 use Rattle.state.specs.Arrays.{Arrays, unitedAll}
 use Rattle.state.specs.Log.{halfOf, spotOf, storedIn}
-use Rattle.state.specs.Order.{neverOpened, inOrderOf}
+use Rattle.state.specs.Order.{neverOpened, bookOf, inOrderOf}
 use Rattle.window.specs.Window.{windowLinks}
 use Rattle.window.specs.Gathered.{Put, linksIn}
 use Rattle.window.specs.Agree.{agreeFrom}
-use Rattle.chunks.specs.Time.{emptied, movedBook}
+use Rattle.chunks.specs.Time.{Fresh, movedBook}
 use Rattle.joined.specs.Joined.{joinedOf}
-use Rattle.book.specs.Calls.{Gives, openingOf, linkOf, clockOf}
+use Rattle.book.specs.Calls.{Outcome, Gives, GivesLent, openingOf, linkOf, clockOf}
 use Rattle.graph.specs.Trail.{trailOf}
 use Rattle.fewest.specs.Lists.{linksOf}
 use Rattle.fewest.specs.Best.{Given}
@@ -41,6 +42,13 @@ use Rattle.trail.specs.Chain.{GivesChain, chainOf}
 abbrev pub AtMostOne : {A : Type 0} → (A → Type 0) → Type 0
 AtMostOne {A} allowed = (r s : A) → allowed r → allowed s → r ≡ s
 
+-- what a call over lent fields gives: its answer, then counts, forward parents and sizes, backward parents, sizes and labels, log
+abbrev pub LentResult : Type 0
+LentResult = LentAnswer × List ℕ × List ℕ × List ℕ × List ℕ × List ℕ × List ℕ × List ℕ
+
+abbrev pub LentGives : Outcome → LentResult → Type 0
+LentGives o r = GivesLent o (r .0) (r .1) (r .2) (r .3) (r .4) (r .5) (r .6) (r .7)
+
 pub record Single : Type 0 where
   -- state
   pub never-opened : AtMostOne (λ r. r ≡ neverOpened)
@@ -49,14 +57,19 @@ pub record Single : Type 0 where
   pub stored : (clock : Clock) (counts : List ℕ) (slide : ℕ) → AtMostOne (λ r. r ≡ storedIn clock counts slide)
   pub clear : (places : List ℕ) (count : ℕ) → AtMostOne (λ r. r ≡ replicate count 0 ++ drop count places)
   -- chunks
-  pub fresh-book : (clock : Clock) (mounting : ℕ) → AtMostOne (λ r. r ≡ emptied clock mounting)
-  pub moved-to : (b : Book) (log : List ℕ) (tick : ℕ) → AtMostOne (λ r. r ≡ movedBook b log tick)
+  pub freshen : AtMostOne {A = List ℕ × List ℕ × List ℕ × List ℕ × List ℕ} (λ r. Fresh (r .0) (r .1) (r .2) (r .3) (r .4))
+  pub move-to : (clock : Clock) (counts fp fs bp bs bl log : List ℕ) (tick : ℕ) →
+      AtMostOne {A = Clock × List ℕ × List ℕ × List ℕ × List ℕ × List ℕ × List ℕ}
+      (λ r. (mounting : ℕ) → bookOf (r .0) mounting (r .1) (r .2) (r .3) (r .4) (r .5) (r .6) ≡ movedBook (bookOf clock mounting counts fp fs bp bs bl) log tick)
   -- book
   pub opening : (b : Book) (log : List ℕ) (s : Settings) → AtMostOne {A = Answer × List ℕ} (λ r. Gives (openingOf b log s) (r .0) (r .1))
   pub link : (b : Book) (log : List ℕ) (tick one other : ℕ) →
       AtMostOne {A = Answer × List ℕ} (λ r. Gives (linkOf b log tick one other) (r .0) (r .1))
   pub clock : (b : Book) (log : List ℕ) (tick : ℕ) → AtMostOne (λ r. Gives (clockOf b log tick) r log)
-  -- joined
+  pub lent-opening : (b : Book) (log : List ℕ) (s : Settings) → AtMostOne (LentGives (openingOf b log s))
+  pub lent-link : (b : Book) (log : List ℕ) (tick one other : ℕ) → AtMostOne (LentGives (linkOf b log tick one other))
+  pub lent-clock : (b : Book) (log : List ℕ) (tick : ℕ) → AtMostOne (LentGives (clockOf b log tick))
+  -- joined, by value and over lent fields
   pub joined : (b : Book) (one other : ℕ) → AtMostOne (λ r. r ≡ joinedOf b one other)
   -- window
   pub gather : (b : Book) (log ones others labels : List ℕ) →

@@ -1,5 +1,5 @@
 //! The calls as the library has them: each gives its whole answer, with the number and, on a refusal,
-//! the zeros beside it. The structs are those of include/kerb.h. The only unsafe code is here.
+//! the zeros beside it; where the book itself is the answer, it is changed in place. The structs are those of include/kerb.h. The only unsafe code is here.
 
 /// What a book opens with and a link file carries.
 #[derive(Clone, Copy, Debug, Default, PartialEq, Eq)]
@@ -39,11 +39,12 @@ pub struct Book {
     pub mounting: u8,
 }
 
-/// What opening, link and clock give.
-#[derive(Clone, Debug, PartialEq, Eq)]
+/// What opening, link and clock give: the book's clock and mounting after the call, and the number.
+#[derive(Clone, Copy, Debug, PartialEq, Eq)]
 #[repr(C)]
-pub struct Answer {
-    pub book: Book,
+pub struct LentAnswer {
+    pub clock: Clock,
+    pub mounting: u8,
     pub number: u8,
 }
 
@@ -84,22 +85,59 @@ mod panel {
 
     extern "C" {
         pub fn kerb_value_never_opened() -> Book;
-        pub fn kerb_value_opening(
-            book: Book,
+        pub fn kerb_lent_opening(
+            clock: Clock,
+            mounting: u8,
+            counts: *mut u16,
+            forward_parent: *mut u16,
+            forward_size: *mut u16,
+            backward_parent: *mut u16,
+            backward_size: *mut u16,
+            backward_label: *mut u8,
             log: *mut u16,
             log_len: usize,
             settings: Settings,
-        ) -> Answer;
-        pub fn kerb_value_link(
-            book: Book,
+        ) -> LentAnswer;
+        pub fn kerb_lent_link(
+            clock: Clock,
+            mounting: u8,
+            counts: *mut u16,
+            forward_parent: *mut u16,
+            forward_size: *mut u16,
+            backward_parent: *mut u16,
+            backward_size: *mut u16,
+            backward_label: *mut u8,
             log: *mut u16,
             log_len: usize,
             tick: u32,
             one: u16,
             other: u16,
-        ) -> Answer;
-        pub fn kerb_value_clock(book: Book, log: *const u16, log_len: usize, tick: u32) -> Answer;
-        pub fn kerb_value_joined(book: Book, one: u16, other: u16) -> JoinedAnswer;
+        ) -> LentAnswer;
+        pub fn kerb_lent_clock(
+            clock: Clock,
+            mounting: u8,
+            counts: *mut u16,
+            forward_parent: *mut u16,
+            forward_size: *mut u16,
+            backward_parent: *mut u16,
+            backward_size: *mut u16,
+            backward_label: *mut u8,
+            log: *const u16,
+            log_len: usize,
+            tick: u32,
+        ) -> LentAnswer;
+        pub fn kerb_lent_joined(
+            clock: Clock,
+            mounting: u8,
+            counts: *const u16,
+            forward_parent: *const u16,
+            forward_size: *const u16,
+            backward_parent: *const u16,
+            backward_size: *const u16,
+            backward_label: *const u8,
+            one: u16,
+            other: u16,
+        ) -> JoinedAnswer;
         pub fn kerb_value_chain(
             book: Book,
             log: *const u16,
@@ -128,20 +166,86 @@ pub fn never_opened() -> Book {
     unsafe { panel::kerb_value_never_opened() }
 }
 
-pub fn opening(book: &Book, log: &mut [u16], settings: Settings) -> Answer {
-    unsafe { panel::kerb_value_opening(book.clone(), log.as_mut_ptr(), log.len(), settings) }
+pub fn opening(book: &mut Book, log: &mut [u16], settings: Settings) -> u8 {
+    let answer = unsafe {
+        panel::kerb_lent_opening(
+            book.clock,
+            book.mounting,
+            book.counts.as_mut_ptr(),
+            book.forward_parent.as_mut_ptr(),
+            book.forward_size.as_mut_ptr(),
+            book.backward_parent.as_mut_ptr(),
+            book.backward_size.as_mut_ptr(),
+            book.backward_label.as_mut_ptr(),
+            log.as_mut_ptr(),
+            log.len(),
+            settings,
+        )
+    };
+    book.clock = answer.clock;
+    book.mounting = answer.mounting;
+    answer.number
 }
 
-pub fn link(book: &Book, log: &mut [u16], tick: u32, one: u16, other: u16) -> Answer {
-    unsafe { panel::kerb_value_link(book.clone(), log.as_mut_ptr(), log.len(), tick, one, other) }
+pub fn link(book: &mut Book, log: &mut [u16], tick: u32, one: u16, other: u16) -> u8 {
+    let answer = unsafe {
+        panel::kerb_lent_link(
+            book.clock,
+            book.mounting,
+            book.counts.as_mut_ptr(),
+            book.forward_parent.as_mut_ptr(),
+            book.forward_size.as_mut_ptr(),
+            book.backward_parent.as_mut_ptr(),
+            book.backward_size.as_mut_ptr(),
+            book.backward_label.as_mut_ptr(),
+            log.as_mut_ptr(),
+            log.len(),
+            tick,
+            one,
+            other,
+        )
+    };
+    book.clock = answer.clock;
+    book.mounting = answer.mounting;
+    answer.number
 }
 
-pub fn clock(book: &Book, log: &[u16], tick: u32) -> Answer {
-    unsafe { panel::kerb_value_clock(book.clone(), log.as_ptr(), log.len(), tick) }
+pub fn clock(book: &mut Book, log: &[u16], tick: u32) -> u8 {
+    let answer = unsafe {
+        panel::kerb_lent_clock(
+            book.clock,
+            book.mounting,
+            book.counts.as_mut_ptr(),
+            book.forward_parent.as_mut_ptr(),
+            book.forward_size.as_mut_ptr(),
+            book.backward_parent.as_mut_ptr(),
+            book.backward_size.as_mut_ptr(),
+            book.backward_label.as_mut_ptr(),
+            log.as_ptr(),
+            log.len(),
+            tick,
+        )
+    };
+    book.clock = answer.clock;
+    book.mounting = answer.mounting;
+    answer.number
 }
 
 pub fn joined(book: &Book, one: u16, other: u16) -> JoinedAnswer {
-    unsafe { panel::kerb_value_joined(book.clone(), one, other) }
+    unsafe {
+        panel::kerb_lent_joined(
+            book.clock,
+            book.mounting,
+            book.counts.as_ptr(),
+            book.forward_parent.as_ptr(),
+            book.forward_size.as_ptr(),
+            book.backward_parent.as_ptr(),
+            book.backward_size.as_ptr(),
+            book.backward_label.as_ptr(),
+            one,
+            other,
+        )
+    }
 }
 
 pub fn chain(book: &Book, log: &[u16], one: u16, other: u16, chain: &mut [u16]) -> ChainAnswer {

@@ -62,9 +62,7 @@ impl Book {
 
     /// A fresh history, whatever the book was.
     pub fn opening(&mut self, log: &mut [u16], settings: Settings) -> Result<(), Refusal> {
-        let answer = calls::opening(self, log, settings);
-        *self = answer.book;
-        Refusal::unless_done(answer.number)
+        Refusal::unless_done(calls::opening(self, log, settings))
     }
 
     /// A link of two cells at a tick.
@@ -75,16 +73,12 @@ impl Book {
         one: u16,
         other: u16,
     ) -> Result<(), Refusal> {
-        let answer = calls::link(self, log, tick, one, other);
-        *self = answer.book;
-        Refusal::unless_done(answer.number)
+        Refusal::unless_done(calls::link(self, log, tick, one, other))
     }
 
     /// The time moves to the tick, and nothing is logged.
     pub fn clock(&mut self, log: &[u16], tick: u32) -> Result<(), Refusal> {
-        let answer = calls::clock(self, log, tick);
-        *self = answer.book;
-        Refusal::unless_done(answer.number)
+        Refusal::unless_done(calls::clock(self, log, tick))
     }
 
     /// Whether links of the window join the two cells.
