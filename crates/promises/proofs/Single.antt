@@ -6,6 +6,7 @@ use mathlib.Core.List.{List}
 use Rattle.crossing.proofs.Joined.{one-answer}
 use Rattle.book.specs.declared.Answer.{Answer}
 use Rattle.book.specs.Calls.{Outcome, Gives}
+use Rattle.text.specs.Output.{Written}
 use Rattle.promises.specs.Single.{AtMostOne, Single}
 
 -- two that equal a third
@@ -18,6 +19,9 @@ both r s p q = λ i. (equal (r .0) (s .0) (p .0) (q .0) i, equal (r .1) (s .1) (
 
 gives : (o : Outcome) → AtMostOne {A = Answer × List ℕ} (λ r. Gives o (r .0) (r .1))
 gives o r s p q = both r s (p .answered, p .logged) (q .answered, q .logged)
+
+written : {text out : List ℕ} {at : ℕ} → AtMostOne {A = ℕ × List ℕ} (λ r. Written text at out (r .0) (r .1))
+written r s p q = both r s (p .until, p .bytes) (q .until, q .bytes)
 
 pub single : Single
 single =
@@ -44,6 +48,10 @@ single =
       write = λ s records out. both;
       word = λ bytes place. equal;
       play = λ file m b log r s p q. both r s (p .played, p .logged) (q .played, q .logged);
+      of-window = λ b log. equal;
+      put-word = λ word out at. written;
+      put-fields = λ word numbers out at. written;
+      put-line = λ word numbers out at. written;
       list = λ file out r s p q. both r s (p .answered, p .written) (q .answered, q .written);
       judge = λ s. equal;
       mirrored = λ cell. equal;
