@@ -1,12 +1,3 @@
-pub mod Cells
-pub mod Decimal
-pub mod Gathering
-pub mod Groups
-pub mod Highest
-pub mod Labels
-pub mod Playing
+pub mod Lines
 pub mod Printed
 pub mod Stages
-pub mod Tally
-pub mod Told
-pub mod Writing

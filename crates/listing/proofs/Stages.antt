@@ -1,5 +1,5 @@
 -- The text of a file, stage by stage: what reading, opening and playing give decides it. A book that was opened and played into
--- can be listed (proofs/Playing.antt).
+-- can be listed (`playing`, proofs/Playing.antt).
 use Prim.Native.Nat.{ℕ, zero, suc, _*_, _≤_}
 use mathlib.Core.Path.{_≡_, refl, sym, ap, _∙_}
 use mathlib.Core.Bool.{Bool, true, false}
@@ -16,11 +16,11 @@ use Rattle.state.specs.Order.{neverOpened}
 use Rattle.state.specs.Numbers.{logPlaces}
 use Rattle.book.specs.Calls.{Outcome, Gives, openingOf}
 use Rattle.listing.specs.declared.Listed.{Listed}
-use Rattle.listing.specs.declared.Played.{Played}
-use Rattle.listing.specs.Text.{refusedFile, refusedRecord}
-use Rattle.listing.specs.Play.{Play, Plays, playFrom}
+use Rattle.playing.specs.declared.Played.{Played}
+use Rattle.listing.specs.Lines.{refusedFile, refusedRecord}
+use Rattle.playing.specs.Play.{Play, Plays, playFrom}
 use Rattle.listing.specs.Listing.{Lists, bookText, playedText, openedText, readText, listingText, outputPlaces, listedIf, listingOf}
-use Rattle.listing.proofs.Playing.{Ready, opening-ready, played-ready}
+use Rattle.playing.proofs.Playing.{Ready, opening-ready, played-ready}
 
 -- a file that is taken has its records
 pub read-size : (file : List ℕ) {r : Reading} → r ≡ readOf file → r .number ≡ 0 → 8 * r .m ≤ length file

@@ -1,6 +1,2 @@
-pub mod Groups
+pub mod Lines
 pub mod Listing
-pub mod Output
-pub mod Play
-pub mod Text
-pub mod Trees

@@ -7,19 +7,17 @@ use lib.Dec.{leb}
 use lib.ListN.{length, drop, replicate}
 use Rattle.slides.specs.Clock.{openSlide}
 use Rattle.slides.specs.declared.Clock.{Clock}
-use Rattle.forest.specs.Arrays.{countFrom}
 use Rattle.linkfile.specs.Format.{readOf}
 use Rattle.linkfile.specs.declared.Reading.{Reading}
 use Rattle.state.specs.declared.Book.{Book}
-use Rattle.state.specs.Arrays.{cells}
 use Rattle.state.specs.Order.{neverOpened}
-use Rattle.state.specs.Numbers.{logPlaces}
 use Rattle.book.specs.Calls.{Outcome, openingOf}
+use Rattle.state.specs.Numbers.{logPlaces}
 use Rattle.window.specs.Window.{windowLinks}
 use Rattle.listing.specs.declared.Listed.{Listed}
-use Rattle.listing.specs.Text.{line, windowWord, linksWord, refusedFile, refusedRecord}
-use Rattle.listing.specs.Groups.{groupLines}
-use Rattle.listing.specs.Play.{Play, playFrom}
+use Rattle.listing.specs.Lines.{windowWord, linksWord, refusedFile, refusedRecord, groupLines}
+use Rattle.text.specs.Text.{line}
+use Rattle.playing.specs.Play.{Play, playFrom}
 
 -- n, B, mounting, open slide
 abbrev pub windowLine : Clock → ℕ → List ℕ
@@ -29,7 +27,7 @@ windowLine clock mounting = line windowWord (clock .n ∷ clock .b ∷ mounting 
 unfoldable pub bookText : Book → List ℕ → List ℕ
 bookText b log =
     windowLine (b .clock) (b .mounting)
-    ++ groupLines (b .clock .n) (windowLinks b log) (countFrom 0 cells)
+    ++ groupLines (b .clock .n) (windowLinks b log)
     ++ line linksWord (length (windowLinks b log) ∷ [])
 
 -- by the number of the first record that is refused

@@ -9,7 +9,7 @@ use native.Mathlib.Omega.{arith}
 use Rattle.linkfile.proofs.Files.{refused-read, refused-write}
 use Rattle.state.specs.declared.Book.{Book}
 use Rattle.book.specs.Calls.{Outcome}
-use Rattle.listing.specs.Play.{Play, tickAt, oneAt, otherAt, recordGives, playBy, playFrom}
+use Rattle.playing.specs.Play.{Play, tickAt, oneAt, otherAt, recordGives, playBy, playFrom}
 use Rattle.listing.specs.Listing.{listedIf, listingOf}
 use Rattle.promises.specs.History.{link}
 use Rattle.promises.specs.Panel.{gives}

@@ -8,6 +8,7 @@ use Rattle.lists.proofs.Listing.{one-listing}
 use Rattle.crossing.proofs.Joined.{one-answer}
 use Rattle.book.specs.declared.Answer.{Answer}
 use Rattle.book.specs.Calls.{Outcome, Gives}
+use Rattle.text.specs.Output.{Written}
 use Rattle.promises.specs.Single.{AtMostOne, LentGives, Single}
 
 -- two that equal a third
@@ -24,8 +25,7 @@ gives o r s p q = both r s (p .answered, p .logged) (q .answered, q .logged)
 lent-gives : (o : Outcome) → AtMostOne (LentGives o)
 lent-gives o r s p q = λ i.
     (let a = equal _ _ (p .answered) (q .answered) i in
-    let b = a .book in
-    (
+    let b = a .book in (
       record { clock = b .clock; mounting = b .mounting; number = a .number },
       b .counts,
       b .«forward_parent»,
@@ -35,6 +35,9 @@ lent-gives o r s p q = λ i.
       b .«backward_label»,
       equal (r .7) (s .7) (p .logged) (q .logged) i,
     ))
+
+written : {text out : List ℕ} {at : ℕ} → AtMostOne {A = ℕ × List ℕ} (λ r. Written text at out (r .0) (r .1))
+written r s p q = both r s (p .until, p .bytes) (q .until, q .bytes)
 
 pub single : Single
 single =
@@ -52,8 +55,8 @@ single =
         equal (r .4) (s .4) (p .backward-labels) (q .backward-labels) i,
       );
       move-to = λ clock counts fp fs bp bs bl log tick r s p q i. (
-        let b = equal _ _ (p 0) (q 0) i in
-        (b .clock, b .counts, b .«forward_parent», b .«forward_size», b .«backward_parent», b .«backward_size», b .«backward_label»));
+          let b = equal _ _ (p 0) (q 0) i in
+          (b .clock, b .counts, b .«forward_parent», b .«forward_size», b .«backward_parent», b .«backward_size», b .«backward_label»));
       opening = λ b log s. gives _;
       link = λ b log tick one other. gives _;
       clock = λ b log tick r s p q. equal r s (p .answered) (q .answered);
@@ -75,6 +78,10 @@ single =
       write = λ s records out. both;
       word = λ bytes place. equal;
       play = λ file m b log r s p q. both r s (p .played, p .logged) (q .played, q .logged);
+      of-window = λ b log. equal;
+      put-word = λ word out at. written;
+      put-fields = λ word numbers out at. written;
+      put-line = λ word numbers out at. written;
       list = λ file out r s p q. both r s (p .answered, p .written) (q .answered, q .written);
       judge = λ s. equal;
       mirrored = λ cell. equal;

@@ -18,7 +18,7 @@ use Rattle.joined.specs.declared.JoinedAnswer.{JoinedAnswer}
 use Rattle.state.specs.Arrays.{most}
 use Rattle.state.specs.Numbers.{firstOf, unless, has, logPlaces, areCells}
 use Rattle.linkfile.specs.Format.{readNumber, readOf, writeNumber, outputOf}
-use Rattle.listing.specs.Play.{Play, playFrom, recordGives}
+use Rattle.playing.specs.Play.{Play, playFrom, recordGives}
 use Rattle.listing.specs.Listing.{listingOf}
 use Rattle.trail.specs.declared.ChainAnswer.{ChainAnswer}
 use Rattle.trail.specs.Chain.{ChainOutcome, chainPlaces}

@@ -16,9 +16,12 @@ use Rattle.soundness.specs.Sound.{every, within, soundOf, labelsWithin}
 use Rattle.lists.specs.Listed as lists
 use Rattle.crossing.specs.Across.{JoinedAcross}
 use Rattle.linkfile.specs.Format.{readOf, writeNumber, outputOf, wordAt}
-use Rattle.listing.specs.declared.Played.{Played}
+use Rattle.playing.specs.declared.Played.{Played}
+use Rattle.playing.specs.Play.{Plays, playFrom}
+use Rattle.groups.specs.Groups.{groupsOf}
+use Rattle.text.specs.Output.{Written}
+use Rattle.text.specs.Text.{fields, line}
 use Rattle.listing.specs.declared.Listed.{Listed}
-use Rattle.listing.specs.Play.{Plays, playFrom}
 use Rattle.listing.specs.Listing.{Lists, listingOf}
 use Rattle.state.specs.declared.Book.{Book}
 use Rattle.book.specs.declared.Answer.{Answer}
@@ -88,9 +91,17 @@ pub record Single : Type 0 where
   pub write : (s : Settings) (records out : List ℕ) →
       AtMostOne {A = ℕ × List ℕ} (λ r. (r .0 ≡ writeNumber s (length records) (length out)) × (r .1 ≡ outputOf s records out))
   pub word : (bytes : List ℕ) (place : ℕ) → AtMostOne (λ r. r ≡ wordAt bytes place)
-  -- listing
+  -- playing
   pub play : (file : List ℕ) (m : ℕ) (b : Book) (log : List ℕ) →
       AtMostOne {A = Played × List ℕ} (λ r. Plays (playFrom file 0 m b log) (r .0) (r .1))
+  -- groups
+  pub of-window : (b : Book) (log : List ℕ) → AtMostOne (λ r. r ≡ groupsOf b log)
+  -- text
+  pub put-word : (word out : List ℕ) (at : ℕ) → AtMostOne {A = ℕ × List ℕ} (λ r. Written word at out (r .0) (r .1))
+  pub put-fields : (word numbers out : List ℕ) (at : ℕ) →
+      AtMostOne {A = ℕ × List ℕ} (λ r. Written (word ++ fields numbers) at out (r .0) (r .1))
+  pub put-line : (word numbers out : List ℕ) (at : ℕ) → AtMostOne {A = ℕ × List ℕ} (λ r. Written (line word numbers) at out (r .0) (r .1))
+  -- listing
   pub list : (file out : List ℕ) → AtMostOne {A = Listed × List ℕ} (λ r. Lists (listingOf file out) (r .0) (r .1))
   -- settings
   pub judge : (s : Settings) → AtMostOne (λ r. r ≡ settingsNumber s)

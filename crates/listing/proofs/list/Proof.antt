@@ -4,7 +4,7 @@ use native.Mathlib.Nat.{zero-add}
 use borrow.Author.Needs.{needs}
 use borrow.Author.Tests.{le-leb, lt-leb}
 use Rattle.listing.specs.Listing.{listedIf, listingOf}
-use Rattle.listing.proofs.Writing.{written-front}
+use Rattle.text.proofs.Writing.{written-front}
 use Rattle.listing.proofs.list.Statement.{statement}
 use Rattle.listing.proofs.list.Tie as tie
 

@@ -1,7 +1,7 @@
 -- `listing::put_refused_file` meets its contract: the word and the number, and the rest of the line.
 use native.Mathlib.Omega.{arith}
-use Rattle.listing.proofs.Decimal.{field-short}
-use Rattle.listing.proofs.Writing.{written-then}
+use Rattle.text.proofs.Decimal.{field-short}
+use Rattle.text.proofs.Writing.{written-then}
 use borrow.Author.Needs.{needs}
 use Rattle.listing.proofs.put_refused_file.Statement.{statement}
 use Rattle.listing.proofs.put_refused_file.Tie as tie

@@ -4,7 +4,8 @@ use mathlib.Core.List.{[], _∷_}
 use native.Mathlib.Omega.{arith}
 use borrow.Author.Needs.{needs}
 use lib.ListN.{length}
-use Rattle.listing.specs.Text.{line, windowWord}
+use Rattle.text.specs.Text.{line}
+use Rattle.listing.specs.Lines.{windowWord}
 use Rattle.listing.proofs.Printed.{window-line-short}
 use Rattle.listing.proofs.put_window.Statement.{statement}
 use Rattle.listing.proofs.put_window.Tie as tie

@@ -1,0 +1,74 @@
+-- The lines of the listing (document 01, "The listing"): their words, and the lines of the groups, as the definition asks for them
+-- and as arrays tell them, which the code has.
+use Prim.Native.Nat.{ℕ, _≤_, _<_}
+use mathlib.Core.Bool.{Bool, true, false, _&&_}
+use mathlib.Core.List.{List, [], _∷_, _++_}
+use lib.Dec.{eqb, ltb}
+use lib.ListN.{length, getD}
+use Rattle.graph.specs.Forest.{Labelled}
+use Rattle.forest.specs.Arrays.{countFrom}
+use Rattle.state.specs.Arrays.{cells}
+use Rattle.groups.specs.Groups.{groupOf, smallest, leastHold}
+use Rattle.text.specs.Text.{blank, lineFeed, fields, line}
+
+-- "window", "group", "links", "refused", "file"
+abbrev pub windowWord : List ℕ
+windowWord = 119 ∷ 105 ∷ 110 ∷ 100 ∷ 111 ∷ 119 ∷ []
+
+abbrev pub groupWord : List ℕ
+groupWord = 103 ∷ 114 ∷ 111 ∷ 117 ∷ 112 ∷ []
+
+abbrev pub linksWord : List ℕ
+linksWord = 108 ∷ 105 ∷ 110 ∷ 107 ∷ 115 ∷ []
+
+abbrev pub refusedWord : List ℕ
+refusedWord = 114 ∷ 101 ∷ 102 ∷ 117 ∷ 115 ∷ 101 ∷ 100 ∷ []
+
+abbrev pub fileWord : List ℕ
+fileWord = 102 ∷ 105 ∷ 108 ∷ 101 ∷ []
+
+-- "refused", the number and "file"
+abbrev pub refusedFile : ℕ → List ℕ
+refusedFile k = refusedWord ++ fields (k ∷ []) ++ (blank ∷ fileWord ++ lineFeed ∷ [])
+
+-- "refused", the number and the record's place from 0
+abbrev pub refusedRecord : ℕ → ℕ → List ℕ
+refusedRecord k place = line refusedWord (k ∷ place ∷ [])
+
+-- ---- the groups
+
+-- c is the smallest cell of a group of two or more
+abbrev pub leads : ℕ → ℕ → ℕ → Bool
+leads c first count = eqb first c && ltb 1 count
+
+-- smallest cell, number of cells, least hold over its pairs
+unfoldable pub groupLineIf : Bool → ℕ → ℕ → ℕ → List ℕ
+groupLineIf true c count hold = line groupWord (c ∷ count ∷ hold ∷ [])
+groupLineIf false c count hold = []
+
+-- the line of a cell's group, if the cell leads it
+abbrev pub groupLine : ℕ → ℕ → ℕ → ℕ → List ℕ
+groupLine c first count hold = groupLineIf (leads c first count) c count hold
+
+-- one line after the other
+unfoldable pub linesOf : (ℕ → List ℕ) → List ℕ → List ℕ
+linesOf text [] = []
+linesOf text (c ∷ cs) = text c ++ linesOf text cs
+
+-- one line per group of two or more cells, by smallest cell
+abbrev pub groupLines : ℕ → List Labelled → List ℕ
+groupLines n xs =
+    linesOf (λ c. let group : List ℕ = groupOf xs c in groupLine c (smallest group) (length group) (leastHold n xs group)) (countFrom 0 cells)
+
+-- ---- told by arrays: of each cell, its group's smallest cell, number of cells and least hold
+
+abbrev pub toldLine : List ℕ → List ℕ → List ℕ → ℕ → List ℕ
+toldLine firsts counts holds c = groupLine c (getD firsts c 0) (getD counts c 0) (getD holds c 0)
+
+abbrev pub toldLines : List ℕ → List ℕ → List ℕ → List ℕ
+toldLines firsts counts holds = linesOf (toldLine firsts counts holds) (countFrom 0 cells)
+
+-- numbers with few digits
+pub record Small (counts holds : List ℕ) : Type 0 where
+  pub count-most : (c : ℕ) → c < cells → getD counts c 0 ≤ 1024
+  pub hold-most : (c : ℕ) → c < cells → getD holds c 0 ≤ 16
