@@ -7,7 +7,6 @@ use borrow.Author.Tests.{eq-eqb, eqb-true}
 use lib.Dec.{eqb}
 use lib.ListN.{length, getD}
 use Rattle.graph.specs.Forest.{climb}
-use Rattle.forest.specs.declared.Walk.{Walk}
 use Rattle.forest.specs.Arrays.{parentIn, walked}
 use Rattle.forest.proofs.Climb.{climb-stays, climb-goes}
 use Rattle.forest.proofs.Fill.{getD-within}
