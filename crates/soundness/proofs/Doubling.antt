@@ -1,24 +1,23 @@
 -- Walks end where sizes double: from a cell of size s, with every size within n, a walk of m steps has reached a root if
 -- n < s * 2 ^ (m + 1), since otherwise a further step would double the size past n. With sizes from 1 on, and n at most
 -- 2 ^ m, that is every cell.
-use Prim.Native.Nat.{ℕ, zero, suc, _+_, _*_, _^_, _≤_, _<_}
-use mathlib.Core.Path.{_≡_, refl, sym, ap, _∙_}
-use mathlib.Core.Bool.{Bool, true, false, _||_, and-eq-true-iff}
+use Prim.Native.Nat.{ℕ, zero, suc, _*_, _-_, _^_, _≤_, _<_}
+use mathlib.Core.Path.{_≡_, refl, sym, _∙_}
+use mathlib.Core.Bool.{Bool, true, false, cond, _||_}
 use mathlib.Core.List.{List}
 use native.Mathlib.Omega.{arith}
-use native.Mathlib.Nat.{pow-suc, mul-assoc, mul-comm, mul-le-mul-right, le-refl, one-mul, two-pow-succ, lt-of-lt-of-le}
-use native.Mathlib.Decide.{ℕ-discrete}
-use borrow.Author.Tests.{le-leb, leb-true, eq-eqb, ne-eqb}
-use lib.Dec.{leb}
+use native.Mathlib.Nat.{pow-suc, mul-assoc, mul-comm, mul-le-mul-right, one-mul, two-pow-succ, lt-of-lt-of-le}
+use native.Mathlib.Decide.{ℕ-discrete, decLe}
+use borrow.Author.Tests.{le-leb, lt-leb, leb-true, eq-eqb, ne-eqb}
+use lib.Dec.{leb, eqb}
 use lib.Pow.{pow-pos}
 use lib.ListN.{length, getD}
-use Rattle.graph.specs.Forest.{climb}
 use Rattle.forest.specs.Arrays.{parentIn, sizeIn}
+use Rattle.forest.proofs.Fill.{getD-within}
+use Rattle.forest.proofs.Ranged.{Ranged}
 use Rattle.soundness.specs.Sound.{every, ends, endsFrom, doublesAt}
 use Rattle.soundness.proofs.Ends.{ends-goes, unless-root, endsFrom-ends}
 use Rattle.soundness.proofs.Every.{every-each, each-every}
-use Rattle.forest.proofs.Fill.{getD-within}
-use Rattle.forest.proofs.Ranged.{Ranged}
 
 doubled : (n s t m : ℕ) → 2 * s ≤ t → n < s * 2 ^ suc (suc m) → n < t * 2 ^ suc m
 doubled n s t m d l = lt-of-lt-of-le (rw (pow-suc 2 (suc m), mul-comm (2 ^ suc m) 2, ← mul-assoc s 2, mul-comm s 2) at l) (mul-le-mul-right (2 ^ suc m) d)
@@ -34,13 +33,16 @@ module _ (up size : ℕ → ℕ) (n : ℕ)
       unless-root up (suc m) c (ℕ-discrete (up c) c)
       (λ k. ends-goes up m c k ∙ walk-ends m (up c) (inside c h) (doubled n (size c) (size (up c)) m (double c h k) l))
 
--- the test of one cell, by the least size that its parent may have; a root is its own parent
-module _ (ss : List ℕ) (c : ℕ) {p least : ℕ} where
-  pub doubles-other : (p ≡ c → ⊥) → least ≡ 2 * getD ss c 0 → doublesAt ss c p ≡ leb least (getD ss p 0)
-  doubles-other k e = simp (ne-eqb p c k, e)
+-- the test of one cell, by what the size above it lacks
+cut-off : (a b : ℕ) → leb a b ≡ eqb (a - b) 0
+cut-off a b = elim (decLe a b) [ yes h ↦ le-leb a b h ∙ sym (eq-eqb (a - b) 0 (omega arith)) | no h ↦ lt-leb a b (omega arith) ∙ sym (ne-eqb (a - b) 0 (λ e. absurd (omega arith))) ]
 
-  pub doubles-root : p ≡ c → least ≡ getD ss c 0 → doublesAt ss c p ≡ leb least (getD ss p 0)
-  doubles-root q e = rw (eq-eqb p c q, e, q) (sym (le-leb _ _ (le-refl (getD ss c 0))))
+pub doubles-lack : (ss : List ℕ) (c p : ℕ) → doublesAt ss c p ≡ eqb (cond (eqb p c) 0 (2 * getD ss c 0 - getD ss p 0)) 0
+doubles-lack ss c p = either (eqb p c)
+  where
+    either : (t : Bool) → (t || leb (2 * getD ss c 0) (getD ss p 0)) ≡ eqb (cond t 0 (2 * getD ss c 0 - getD ss p 0)) 0
+    either true = refl
+    either false = cut-off (2 * getD ss c 0) (getD ss p 0)
 
 -- each tree but a root's has at most half the cells of its parent's, so every walk ends
 pub doubles-end : (ps ss : List ℕ) (most : ℕ) → Ranged (length ps) ps ss → every (doublesAt ss) 0 ps ≡ true → length ps ≤ 2 ^ most

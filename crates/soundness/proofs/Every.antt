@@ -1,7 +1,7 @@
 -- A pass over a list that tests every entry, as a loop with a flag: what was tested so far and what is left make the whole.
 use Prim.Native.Nat.{ℕ, zero, suc, _+_, _≤_, _<_}
 use mathlib.Core.Path.{_≡_, refl, sym, ap, _∙_}
-use mathlib.Core.Bool.{Bool, true, false, _&&_, and-assoc, and-true, and-false, and-eq-true-iff}
+use mathlib.Core.Bool.{Bool, true, false, _&&_, and-assoc, and-self-left, and-true, and-false, and-eq-true-iff}
 use mathlib.Core.List.{List, [], _∷_}
 use mathlib.Core.Logic.{_⊎_, ⊎-elim}
 use native.Mathlib.Omega.{arith}
@@ -30,13 +30,18 @@ pub flagged : {P Q : Type 0} {t flag fine : Bool} → (P → t ≡ false) → (Q
     → flag ≡ (fine && t)
 flagged {fine} fails passes = ⊎-elim (λ w. struck fine (fails (w .0)) (w .1)) (λ w. kept (passes (w .0)) (w .1))
 
--- two such, one after the other
-pub flagged-twice : {first second : Bool} (fine t u : Bool) → first ≡ (fine && t) → second ≡ (first && u) → second ≡ (fine && (t && u))
-flagged-twice fine t u p q = q ∙ rw p (and-assoc fine t u)
-
 module _ {f : ℕ → ℕ → Bool} {l : List ℕ} where
   pub tested-none : Tested f l true 0
   tested-none = record { passed = omega arith; rest = refl }
+
+  -- the first entry, tested before it is its turn
+  pub tested-first : 0 < length l → Tested f l (f 0 (getD l 0 0)) 0
+  unfolding every
+  tested-first h = record { passed = omega arith; rest = twice l h }
+    where
+      twice : (m : List ℕ) → 0 < length m → every f 0 m ≡ (f 0 (getD m 0 0) && every f 0 m)
+      twice [] h = absurd (omega arith)
+      twice (x ∷ xs) h = sym (and-self-left (f 0 x) (every f 1 xs))
 
   -- one entry more
   pub tested-more : {fine flag : Bool} {i : ℕ} → Tested f l fine i → i < length l → flag ≡ (fine && f i (getD l i 0))

@@ -1,4 +1,5 @@
 pub mod Doubling
 pub mod Ends
 pub mod Every
+pub mod Extremes
 pub mod Facts

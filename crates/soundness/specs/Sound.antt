@@ -1,6 +1,7 @@
 -- Number 1 of document 01, for one forest in arrays: what each of its tests asks of the lists of parents, sizes and labels.
 -- The lists may have any length, which is the number of cells.
-use Prim.Native.Nat.{ℕ, suc, _+_, _*_}
+use Prim.Native.Nat.{ℕ, suc, _+_, _*_, _≤_, _<_}
+use mathlib.Core.Path.{_≡_}
 use mathlib.Core.Bool.{Bool, true, _&&_, _||_}
 use mathlib.Core.List.{List, [], _∷_}
 use lib.Dec.{eqb, leb, ltb}
@@ -39,6 +40,17 @@ soundOf ps ss most =
 -- each label is at most the bound
 abbrev pub labelsWithin : List ℕ → ℕ → Bool
 labelsWithin ls bound = every (λ c x. leb x bound) 0 ls
+
+-- what the quick way takes: at most 1,024 cells, as many sizes as parents, and all of them in their ranges
+pub record Comparable (ps ss : List ℕ) : Type 0 where
+  pub few : length ps ≤ 1024
+  pub long : length ss ≡ length ps
+  pub parents : every (within 0 (length ps)) 0 ps ≡ true
+  pub sizes : every (within 1 (length ps + 1)) 0 ss ≡ true
+
+-- each place has the size of the cell's parent
+abbrev pub Above : List ℕ → List ℕ → List ℕ → Type 0
+Above ps ss above = (c : ℕ) → c < length ps → getD above c 0 ≡ getD ss (getD ps c 0) 0
 
 -- each tree but a root's has at most half the cells of its parent's
 abbrev pub doublesAt : List ℕ → ℕ → ℕ → Bool

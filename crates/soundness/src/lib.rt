@@ -2,14 +2,14 @@
 //
 // It is asked at every call, so it is quick where the forest is one that links made: there each step of a walk at least
 // doubles a size that stays within the number of cells. Only where some size does not do that are the walks taken.
-// The passes set a flag and go on, with no way out, so that they can be done several entries at a time.
+// A pass keeps a flag, or the least and the greatest so far, in the width of the entries, and goes on, with no way out: so a
+// machine can do several entries at a time.
 ghost use mathlib.Core.Path.{_≡_};
-ghost use mathlib.Core.Bool.{true};
-ghost use Prim.Native.Nat.{_^_};
-ghost use lib.Dec.{leb};
-ghost use lib.ListN.{length};
+ghost use mathlib.Core.Bool.{cond, _&&_};
+ghost use Prim.Native.Nat.{_-_, _*_, _^_, _≤_};
+ghost use lib.Dec.{eqb, leb, ltb};
 ghost use Rattle.forest.specs.Arrays.{parentIn};
-ghost use Rattle.soundness.specs.Sound.{every, within, ends, endsFrom, doublesAt, soundOf, labelsWithin};
+ghost use Rattle.soundness.specs.Sound.{every, within, ends, endsFrom, Comparable, Above, doublesAt, soundOf, labelsWithin};
 
 // Whether the arrays are a forest's, with no walk over `most` steps.
 pub fn sound<'a>(parent: &'a [u16], size: &'a [u16], most: u8) -> bool
@@ -48,29 +48,36 @@ pub fn labels_within(label: &[u8], bound: u8) -> bool
     fine
 }
 
-// Whether each number is at least low and below the end.
+// Whether each number is at least low and below the end: the least and the greatest are.
 pub fn all_within(numbers: &[u16], low: usize, end: usize) -> bool
     ensures { λ r. ⌜ r ≡ every (within low end) 0 (now (numbers .entry)) ⌝ }
 {
-    let mut fine = true;
+    if numbers.len() == 0 {
+        return true;
+    }
+    let mut least = numbers[0];
+    let mut greatest = least;
     let mut i = 0;
     while i < numbers.len() {
-        let x = numbers[i] as usize;
-        if x < low {
-            fine = false;
-        }
-        if end <= x {
-            fine = false;
-        }
+        let x = numbers[i];
+        least = smaller(least, x);
+        greatest = larger(greatest, x);
         i += 1;
     }
-    fine
+    if wide(least) < low {
+        return false;
+    }
+    wide(greatest) < end
 }
 
-// Whether a walk of `most` steps, each of which doubles a size, reaches the size `cells`.
+// Whether sizes can tell: a walk of `most` steps, each of which doubles a size, reaches the size `cells`, and there are no more
+// than are gathered below.
 fn reaches(most: u8, cells: usize) -> bool
-    ensures { λ r. ⌜ r ≡ leb cells (2 ^ most) ⌝ }
+    ensures { λ r. ⌜ r ≡ (leb cells 1024 && leb cells (2 ^ most)) ⌝ }
 {
+    if 1024 < cells {
+        return false;
+    }
     if most < 64 {
         let top = 1usize << most;
         return cells <= top;
@@ -78,28 +85,49 @@ fn reaches(most: u8, cells: usize) -> bool
     true
 }
 
-// Whether each cell's size but a root's is at most half its parent's.
+// Whether each cell's size but a root's is at most half its parent's: none lacks anything.
 fn doubles<'a>(parent: &'a [u16], size: &'a [u16]) -> bool
-    requires { ⌜ (length (now size) ≡ length (now parent)) × (every (within 0 (length (now parent))) 0 (now parent) ≡ true) ⌝ }
+    requires { ⌜ Comparable (now parent) (now size) ⌝ }
     ensures { λ r. ⌜ r ≡ every (doublesAt (now (size .entry))) 0 (now (parent .entry)) ⌝ }
 {
-    let mut fine = true;
+    let above = sizes_above(parent, size);
+    let mut lacking = 0;
+    let mut i = 0;
+    while i < parent.len() {
+        lacking = larger(lacking, lack(i as u16, parent[i], size[i], above[i]));
+        i += 1;
+    }
+    lacking == 0
+}
+
+// The size of each cell's parent. They are gathered first, one by one, so that the comparison has no place to look up.
+fn sizes_above<'a>(parent: &'a [u16], size: &'a [u16]) -> [u16; 1024]
+    requires { ⌜ Comparable (now parent) (now size) ⌝ }
+    ensures { λ r. ⌜ Above (now (parent .entry)) (now (size .entry)) r ⌝ }
+{
+    let mut above = [0u16; 1024];
     let mut i = 0;
     while i < parent.len() {
         let up = parent[i] as usize;
-        let own = size[i] as usize;
-        let above = size[up] as usize;
-        // a root is above itself
-        let mut least = own;
-        if up != i {
-            least = 2 * own;
-        }
-        if above < least {
-            fine = false;
-        }
+        above[i] = size[up];
         i += 1;
     }
-    fine
+    above
+}
+
+// What the size above a cell lacks of twice its own; a root lacks nothing.
+fn lack(cell: u16, up: u16, own: u16, above: u16) -> u16
+    requires { ⌜ own ≤ 1024 ⌝ }
+    ensures { λ r. ⌜ r ≡ cond (eqb up cell) 0 (2 * own - above) ⌝ }
+{
+    if up == cell {
+        return 0;
+    }
+    let least = 2 * own;
+    if least <= above {
+        return 0;
+    }
+    least - above
 }
 
 // Whether every cell's walk ends.
@@ -142,4 +170,25 @@ fn up(parent: &[u16], cell: usize) -> usize
     } else {
         cell
     }
+}
+
+// The number in the width of a length.
+fn wide(x: u16) -> usize
+    ensures { λ r. ⌜ r ≡ x ⌝ }
+{
+    x as usize
+}
+
+// The smaller of two.
+fn smaller(a: u16, b: u16) -> u16
+    ensures { λ r. ⌜ r ≡ cond (ltb b a) b a ⌝ }
+{
+    if b < a { b } else { a }
+}
+
+// The larger of two.
+fn larger(a: u16, b: u16) -> u16
+    ensures { λ r. ⌜ r ≡ cond (ltb a b) b a ⌝ }
+{
+    if a < b { b } else { a }
 }

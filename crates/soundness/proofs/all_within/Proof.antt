@@ -1,23 +1,32 @@
--- `soundness::all_within` meets its contract: a pass with a flag (proofs/Every.antt), of two tests an entry.
+-- `soundness::all_within` meets its contract: a pass (proofs/Every.antt), whose flag is whether the least and the greatest so far
+-- are within (proofs/Extremes.antt).
 use Prim.Native.Nat.{_-_}
 use native.Mathlib.Omega.{arith}
 use borrow.Author.Needs.{needs}
-use borrow.Author.Tests.{le-leb, lt-leb, lt-ltb, le-ltb}
+use borrow.Author.Tests.{le-leb, lt-leb}
+use mathlib.Core.Bool.{_&&_}
 use lib.Dec.{leb, ltb}
 use lib.ListN.{length, getD}
 use Rattle.soundness.specs.Sound.{within}
-use Rattle.soundness.proofs.Every.{Tested, tested-none, tested-more, tested-all, flagged, flagged-twice}
+use Rattle.soundness.proofs.Every.{Tested, tested-none, tested-first, tested-more, tested-all}
+use Rattle.soundness.proofs.Extremes.{both-more}
 use Rattle.soundness.proofs.all_within.Statement.{statement}
 use Rattle.soundness.proofs.all_within.Tie as tie
 
 abbrev Inv-loop : tie.InvT-loop
-Inv-loop numbers low end fine₀ i₀ fine i = Tested (within low end) numbers fine i
+Inv-loop numbers low end least₀ greatest₀ i₀ least greatest i = Tested (within low end) numbers (leb low least && ltb greatest end) i
 
 abbrev μ-loop : tie.MeasureT-loop
-μ-loop numbers low end fine₀ i₀ fine i = length numbers - i
+μ-loop numbers low end least₀ greatest₀ i₀ least greatest i = length numbers - i
+
+returns : tie.Need-returns Inv-loop μ-loop
+returns c = tested-all tested-none (omega arith)
+
+shared-slice-read-least : tie.Need-shared-slice-read-least Inv-loop μ-loop
+shared-slice-read-least c = omega arith
 
 loop-holds : tie.Need-loop-holds Inv-loop μ-loop
-loop-holds c = tested-none
+loop-holds c = tested-first (omega arith)
 
 mul-x : tie.Need-mul-x Inv-loop μ-loop
 mul-x c = search needs
@@ -25,8 +34,11 @@ mul-x c = search needs
 shared-slice-read-x : tie.Need-shared-slice-read-x Inv-loop μ-loop
 shared-slice-read-x c = search needs
 
-cast-x : tie.Need-cast-x Inv-loop μ-loop
-cast-x c = omega (arith, c .shared-slice-known .given (c .before .before .loop .i))
+smaller-requires : tie.Need-smaller-requires Inv-loop μ-loop
+smaller-requires c κs = tt
+
+larger-requires : tie.Need-larger-requires Inv-loop μ-loop
+larger-requires c κs = tt
 
 add-i : tie.Need-add-i Inv-loop μ-loop
 add-i c = omega arith
@@ -36,17 +48,46 @@ loop-less c = omega arith
 
 loop-again : tie.Need-loop-again Inv-loop μ-loop
 loop-again c =
-    let args = c .before .before .before .before .before .args in
+    let args = c .before .before .before .before .before .before .before .before .args in
     let at = c .before .before .before .before .loop in
-    let x = getD (args .numbers .now) (at .i) 0 in
     tested-more (at .inv) (c .before .before .before .loop-test .taken)
-    (flagged-twice (at .fine) (leb (args .low) x) (ltb x (args .end))
-    (flagged (λ w. lt-leb _ _ (w .taken)) (λ w. le-leb _ _ (w .left)) (c .before .if1 .came))
-    (flagged (λ w. le-ltb _ _ (w .taken)) (λ w. lt-ltb _ _ (w .left)) (c .if2 .came)))
+    (rw (c .before .smaller .ensures, c .larger .ensures)
+    (both-more (args .low) (args .end) (at .least) (at .greatest) (getD (args .numbers .now) (at .i) 0)))
 
-returns : tie.Need-returns Inv-loop μ-loop
-returns c = tested-all (c .before .loop .inv) (c .loop-test .left)
+wide-requires : tie.Need-wide-requires Inv-loop μ-loop
+wide-requires c κs = tt
+
+returns-2 : tie.Need-returns-2 Inv-loop μ-loop
+returns-2 c =
+    rw (lt-leb _ _ (rw (c .before .wide .ensures) at (c .if2 .taken)))
+    at (tested-all (c .before .before .before .loop .inv) (c .before .before .loop-test .left))
+
+wide-requires-2 : tie.Need-wide-requires-2 Inv-loop μ-loop
+wide-requires-2 c κs = tt
+
+returns-3 : tie.Need-returns-3 Inv-loop μ-loop
+returns-3 c =
+    rw (c .wide2 .ensures)
+    (rw (le-leb _ _ (rw (c .before .before .wide .ensures) at (c .before .if2 .left)))
+    at (tested-all (c .before .before .before .before .loop .inv) (c .before .before .before .loop-test .left)))
 
 pub all-within-spec : {M : Type 1} → statement M
 all-within-spec =
-    tie.close (tie.spec Inv-loop μ-loop loop-holds mul-x shared-slice-read-x cast-x add-i loop-less loop-again returns)
+    tie.close
+    (tie.spec
+    Inv-loop
+    μ-loop
+    returns
+    shared-slice-read-least
+    loop-holds
+    mul-x
+    shared-slice-read-x
+    smaller-requires
+    larger-requires
+    add-i
+    loop-less
+    loop-again
+    wide-requires
+    returns-2
+    wide-requires-2
+    returns-3)

@@ -1,59 +1,62 @@
--- `soundness::doubles` meets its contract: a pass with a flag (proofs/Every.antt); the parents are cells, so their sizes can be read.
-use Prim.Native.Nat.{_-_}
+-- `soundness::doubles` meets its contract: a pass (proofs/Every.antt), whose flag is whether the most that a size above lacks is 0
+-- (proofs/Extremes.antt, proofs/Doubling.antt).
+use Prim.Native.Nat.{_+_, _-_}
 use borrow.Author.Needs.{needs}
-use borrow.Author.Tests.{le-leb, lt-leb}
-use mathlib.Core.Path.{_≡_, _∙_}
-use mathlib.Core.Logic.{⊎-elim}
+use mathlib.Core.Path.{sym, ap, _∙_}
+use mathlib.Core.Bool.{_&&_}
 use native.Mathlib.Omega.{arith}
-use lib.Dec.{leb}
+use lib.Dec.{eqb}
 use lib.ListN.{length, getD}
 use Rattle.soundness.specs.Sound.{doublesAt}
-use Rattle.soundness.proofs.Doubling.{doubles-other, doubles-root}
-use Rattle.soundness.proofs.Every.{Tested, tested-none, tested-more, tested-all, flagged, every-each, within-high}
+use Rattle.soundness.proofs.Doubling.{doubles-lack}
+use Rattle.soundness.proofs.Every.{Tested, tested-none, tested-more, tested-all, every-each, within-high}
+use Rattle.soundness.proofs.Extremes.{none-more}
 use Rattle.soundness.proofs.doubles.Statement.{statement}
 use Rattle.soundness.proofs.doubles.Tie as tie
 
 abbrev Inv-loop : tie.InvT-loop
-Inv-loop parent size fine₀ i₀ fine i = Tested (doublesAt size) parent fine i
+Inv-loop parent size above lacking₀ i₀ lacking i = Tested (doublesAt size) parent (eqb lacking 0) i
 
 abbrev μ-loop : tie.MeasureT-loop
-μ-loop parent size fine₀ i₀ fine i = length parent - i
+μ-loop parent size above lacking₀ i₀ lacking i = length parent - i
+
+sizes-above-requires : tie.Need-sizes-above-requires Inv-loop μ-loop
+sizes-above-requires c κs = c .before .before .pre
 
 loop-holds : tie.Need-loop-holds Inv-loop μ-loop
 loop-holds c = tested-none
 
-mul-up : tie.Need-mul-up Inv-loop μ-loop
-mul-up c = search needs
+cast-lack : tie.Need-cast-lack Inv-loop μ-loop
+cast-lack c = omega (arith, c .before .before .before .before .before .pre .few)
 
-shared-slice-read-up : tie.Need-shared-slice-read-up Inv-loop μ-loop
-shared-slice-read-up c = search needs
+mul-lack : tie.Need-mul-lack Inv-loop μ-loop
+mul-lack c = search needs
 
-cast-up : tie.Need-cast-up Inv-loop μ-loop
-cast-up c = omega (arith, c .shared-slice-known .given (c .before .before .loop .i))
+shared-slice-read-lack : tie.Need-shared-slice-read-lack Inv-loop μ-loop
+shared-slice-read-lack c = search needs
 
-mul-own : tie.Need-mul-own Inv-loop μ-loop
-mul-own c = search needs
+mul-lack-2 : tie.Need-mul-lack-2 Inv-loop μ-loop
+mul-lack-2 c = search needs
 
-shared-slice-read-own : tie.Need-shared-slice-read-own Inv-loop μ-loop
-shared-slice-read-own c = search needs
+shared-slice-read-lack-2 : tie.Need-shared-slice-read-lack-2 Inv-loop μ-loop
+shared-slice-read-lack-2 c = rw (c .before .before .before .before .before .before .before .pre .long) (c .before .before .loop-test .taken)
 
-cast-own : tie.Need-cast-own Inv-loop μ-loop
-cast-own c = omega (arith, c .shared-slice-known2 .given (c .before .before .before .loop .i))
+mul-lack-3 : tie.Need-mul-lack-3 Inv-loop μ-loop
+mul-lack-3 c = search needs
 
-mul-above : tie.Need-mul-above Inv-loop μ-loop
-mul-above c = omega (arith, c .before .shared-slice-known .given (c .before .before .before .loop .i))
+array-read-lack : tie.Need-array-read-lack Inv-loop μ-loop
+array-read-lack c = omega (arith, c .before .before .before .before .before .before .before .pre .few)
 
-shared-slice-read-above : tie.Need-shared-slice-read-above Inv-loop μ-loop
-shared-slice-read-above c =
-    let start = c .before .before .before .before .before in
-    let i = c .before .before .before .before .loop .i in
-    rw (start .pre .0) (within-high 0 _ i _ (every-each _ (start .args .parent .now) (start .pre .1) i (c .before .before .before .loop-test .taken)))
+lack-requires : tie.Need-lack-requires Inv-loop μ-loop
+lack-requires c κs =
+    let start = c .before .before .before .before .before .before .before in
+    let i = c .before .before .before .loop .i in
+    let ss = start .args .size .now in
+    let within = every-each _ ss (start .pre .sizes) i (rw (start .pre .long) (c .before .before .loop-test .taken)) in
+    omega (arith, start .pre .few, within-high 1 (length (start .args .parent .now) + 1) i (getD ss i 0) within)
 
-cast-above : tie.Need-cast-above Inv-loop μ-loop
-cast-above c = omega (arith, c .shared-slice-known3 .given (getD (c .before .before .before .before .before .args .parent .now) (c .before .before .before .before .loop .i) 0))
-
-mul-least : tie.Need-mul-least Inv-loop μ-loop
-mul-least c = omega (arith, c .before .before .shared-slice-known2 .given (c .before .before .before .before .before .loop .i))
+larger-requires : tie.Need-larger-requires Inv-loop μ-loop
+larger-requires c κs = tt
 
 add-i : tie.Need-add-i Inv-loop μ-loop
 add-i c = omega arith
@@ -61,20 +64,17 @@ add-i c = omega arith
 loop-less : tie.Need-loop-less Inv-loop μ-loop
 loop-less c = omega arith
 
--- the test that the first branch prepares
-test : (c : tie.Joined1 Inv-loop μ-loop)
-    → (let args = c .before .before .before .before .before .before .args in
-    let i = c .before .before .before .before .before .loop .i in
-    let up = getD (args .parent .now) i 0 in
-    doublesAt (args .size .now) i up ≡ leb (c .if1 .least) (getD (args .size .now) up 0))
-test c =
-    let size = c .before .before .before .before .before .before .args .size .now in
-    ⊎-elim (λ w. doubles-other size _ (w .0 .taken) (w .1)) (λ w. doubles-root size _ (w .0 .left) (w .1)) (c .if1 .came)
-
 loop-again : tie.Need-loop-again Inv-loop μ-loop
 loop-again c =
-    tested-more (c .before .before .before .before .before .before .loop .inv) (c .before .before .before .before .before .loop-test .taken)
-    (flagged (λ w. test (c .before) ∙ lt-leb _ _ (w .taken)) (λ w. test (c .before) ∙ le-leb _ _ (w .left)) (c .if2 .came))
+    let args = c .before .before .before .before .before .before .before .before .before .args in
+    let at = c .before .before .before .before .before .loop in
+    let test = c .before .before .before .before .loop-test .taken in
+    let up = getD (args .parent .now) (at .i) 0 in
+    tested-more (at .inv) test
+    (rw (c .larger .ensures)
+    (none-more (at .lacking) (c .before .lack .result)
+    ∙ ap (λ t. eqb (at .lacking) 0 && t)
+    (rw (c .before .lack .ensures, c .before .before .before .before .before .before .sizes-above .ensures (at .i) test) (sym (doubles-lack (args .size .now) (at .i) up)))))
 
 returns : tie.Need-returns Inv-loop μ-loop
 returns c = tested-all (c .before .loop .inv) (c .loop-test .left)
@@ -85,17 +85,17 @@ doubles-spec =
     (tie.spec
     Inv-loop
     μ-loop
+    sizes-above-requires
     loop-holds
-    mul-up
-    shared-slice-read-up
-    cast-up
-    mul-own
-    shared-slice-read-own
-    cast-own
-    mul-above
-    shared-slice-read-above
-    cast-above
-    mul-least
+    cast-lack
+    mul-lack
+    shared-slice-read-lack
+    mul-lack-2
+    shared-slice-read-lack-2
+    mul-lack-3
+    array-read-lack
+    lack-requires
+    larger-requires
     add-i
     loop-less
     loop-again

@@ -1,9 +1,9 @@
 -- `soundness::sound` meets its contract: each test is one of the definition's. Where the sizes double, every walk
 -- ends (proofs/Doubling.antt); otherwise the walks decide, as the definition says.
-use Prim.Native.Nat.{_+_}
+use Prim.Native.Nat.{_+_, _^_, _≤_}
 use borrow.Author.Tests.{eq-eqb, ne-eqb, not-true, not-false, leb-true}
 use mathlib.Core.Path.{_≡_, sym, _∙_}
-use mathlib.Core.Bool.{true, _&&_}
+use mathlib.Core.Bool.{true, and-eq-true-iff}
 use native.Mathlib.Omega.{arith}
 use lib.Dec.{eqb}
 use lib.ListN.{length}
@@ -27,6 +27,12 @@ sizes c = sym (c .before .all-within2 .ensures) ∙ not-false _ (c .if3 .left)
 ranges : (c : tie.Else3) → (let a = c .before .before .before .before .before .before .before .args in Ranged (length (a .parent .now)) (a .parent .now) (a .size .now))
 ranges c = ranged _ _ (long (c .before .before .before .before)) (parents (c .before .before)) (sizes c)
 
+-- what the quick way has asked
+quick : (c : tie.Then4) → (let a = c .before .before .before .before .before .before .before .before .before .args in (length (a .parent .now) ≤ 1024) × (length (a .parent .now) ≤ 2 ^ a .most))
+quick c =
+    let both = and-eq-true-iff _ _ .0 (sym (c .before .reaches .ensures) ∙ c .if4 .taken) in
+    (leb-true _ _ (both .0), leb-true _ _ (both .1))
+
 returns : tie.Need-returns
 returns c = simp (ne-eqb _ _ (c .if1 .taken))
 
@@ -49,14 +55,15 @@ reaches-requires : tie.Need-reaches-requires
 reaches-requires c κs = tt
 
 doubles-requires : tie.Need-doubles-requires
-doubles-requires c κs = (long (c .before .before .before .before .before .before), parents (c .before .before .before .before))
+doubles-requires c κs =
+    let e = c .before .before in
+    record { few = quick c .0; long = long (e .before .before .before .before); parents = parents (e .before .before); sizes = sizes e }
 
 returns-4 : tie.Need-returns-4
 returns-4 c =
     let e = c .before .before .before .before in
     let doubles = sym (c .before .doubles .ensures) ∙ c .if5 .taken in
-    let reaches = leb-true _ _ (sym (c .before .before .before .reaches .ensures) ∙ c .before .before .if4 .taken) in
-    simp (eq-eqb _ _ (long (e .before .before .before .before)), parents (e .before .before), sizes e, doubles-end _ _ _ (ranges e) doubles reaches)
+    simp (eq-eqb _ _ (long (e .before .before .before .before)), parents (e .before .before), sizes e, doubles-end _ _ _ (ranges e) doubles (quick (c .before .before) .1))
 
 walks-end-requires : tie.Need-walks-end-requires
 walks-end-requires c κs = tt
