@@ -33,6 +33,7 @@ pub enum Call {
     Chain {
         first: u32,
         second: u32,
+        log_places: usize,
         chain_places: usize,
     },
     /// The reader of link files.
@@ -142,8 +143,9 @@ pub fn ask(book: &mut Book, call: &Call) -> Answer {
         Call::Chain {
             first,
             second,
+            log_places,
             chain_places,
-        } => ask_chain(book, *first, *second, *chain_places),
+        } => ask_chain(book, *first, *second, *log_places, *chain_places),
         Call::Read { file } => ask_read(file),
         Call::Write {
             settings,
@@ -166,9 +168,15 @@ fn ask_joined(book: &Book, first: u32, second: u32) -> Answer {
     }
 }
 
-fn ask_chain(book: &Book, first: u32, second: u32, places: usize) -> Answer {
-    let mut lent = lent_places(places);
-    let answer = book.chain(first, second, &mut lent);
+fn ask_chain(
+    book: &Book,
+    first: u32,
+    second: u32,
+    log_places: usize,
+    chain_places: usize,
+) -> Answer {
+    let mut lent = lent_places(chain_places);
+    let answer = book.chain(first, second, log_places, &mut lent);
     let fields = answer.unwrap_or_default();
     Answer::Chain {
         number: number(&answer),

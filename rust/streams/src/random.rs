@@ -181,6 +181,7 @@ impl Random {
             Call::Chain {
                 first,
                 second,
+                log_places: self.log_places(),
                 chain_places: self.chain_places(),
             }
         }
