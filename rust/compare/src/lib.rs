@@ -13,6 +13,7 @@
 
 #![forbid(unsafe_code)]
 
+pub mod altered;
 mod difference;
 pub mod fields;
 pub mod library;

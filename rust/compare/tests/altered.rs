@@ -1,1 +1,69 @@
-fn main() {}
+//! Altered books: whatever a call is given, it gives what docs/BOOK.md says. Most
+//! of the books are in range, so that calls get past number 1; the rest have a
+//! field outside its range, or any bytes. Several calls one after the other are
+//! put to each book. Prints the seed and how often each class was seen; fails on
+//! a difference, and where a class stayed empty.
+
+use compare::altered::{books, calls, said, seen};
+use compare::{library, run, Difference, State, Tally};
+use std::process::ExitCode;
+use std::time::Instant;
+use streams::Dice;
+
+/// So many lots of so many books, and so many calls to each book.
+const LOTS: u64 = 40;
+const BOOKS: u64 = 500;
+const CALLS: u64 = 10;
+
+fn main() -> ExitCode {
+    let start = Instant::now();
+    let seed = run::seed();
+    println!("altered books compared with docs/BOOK.md, seed {seed}");
+    let mut dice = Dice::new(seed);
+    let left = books::left_by_calls(dice.bits());
+    let lots: Vec<u64> = (0..LOTS).map(|_| dice.bits()).collect();
+
+    let mut tally = seen::tally();
+    let mut differences = Vec::new();
+    for result in run::on_all_cores(lots, |lot| compare(lot, &left)) {
+        match result {
+            Ok(seen) => tally.add(&seen),
+            Err(difference) => differences.push(format!("seed {seed}, {difference}")),
+        }
+    }
+    let seconds = start.elapsed().as_secs_f64();
+    let (asked, books) = (LOTS * BOOKS * CALLS, LOTS * BOOKS);
+    println!("{asked} calls to {books} books, each with its whole answer, book and log, in {seconds:.1} s");
+    if 2 * tally.seen("at first", "in order") < books {
+        differences.push("fewer than half of the books are in order".to_string());
+    }
+    run::verdict(&tally, &differences)
+}
+
+/// Puts calls to the books of a lot, to the library and to what is said of it.
+fn compare(lot: u64, left: &[State]) -> Result<Tally, String> {
+    let mut tally = seen::tally();
+    let mut dice = Dice::new(lot);
+    for place in 0..BOOKS {
+        let altered = books::draw(&mut dice, left);
+        let mut state = altered.state;
+        seen::count_book(&mut tally, altered.kind, &state);
+        for asked in 0..CALLS {
+            let call = calls::draw(&mut dice, &state, &altered.cells);
+            let mut given = state.clone();
+            let given_answer = library::ask(&mut given, &call);
+            let before = state.clone();
+            let answer = said::ask(&mut state, &call);
+            Difference::of_answers(&call, &answer, &given_answer)
+                .and_then(|()| Difference::of_states(&call, &state, &given))
+                .map_err(|difference| {
+                    format!(
+                        "lot {lot}, book {place} ({}), call {asked}: {difference}",
+                        altered.kind
+                    )
+                })?;
+            seen::count(&mut tally, &before, &state, &call, &answer);
+        }
+    }
+    Ok(tally)
+}
