@@ -49,36 +49,34 @@ fn field_outside(book: &Book) -> Option<&'static str> {
     outside.map(|field| REASONS[field])
 }
 
-/// For parents that are all cells. A walk that takes as many steps as there are
-/// cells goes in a circle.
+/// For parents that are all cells.
 fn walk_too_long(book: &Book) -> Option<&'static str> {
-    let forward = longest_walk(&book.forward_parent);
-    let backward = longest_walk(&book.backward_parent);
-    let circle = CELLS as usize;
-    if forward == circle {
-        Some("forward circle")
-    } else if backward == circle {
-        Some("backward circle")
-    } else if forward > MOST_STEPS {
-        Some("forward walk over 10")
-    } else if backward > MOST_STEPS {
-        Some("backward walk over 10")
-    } else {
-        None
+    let forward = longer_than_most(&book.forward_parent);
+    let backward = longer_than_most(&book.backward_parent);
+    match (forward, backward) {
+        (Some(Walk::Ends), _) => Some("forward walk over 10"),
+        (Some(Walk::Circles), _) => Some("forward circle"),
+        (None, Some(Walk::Ends)) => Some("backward walk over 10"),
+        (None, Some(Walk::Circles)) => Some("backward circle"),
+        (None, None) => None,
     }
 }
 
-/// The most parent steps that a cell's walk takes, at most as many as there are
-/// cells.
-fn longest_walk(parents: &[u16; 1024]) -> usize {
-    let steps = |cell: u16| {
-        let mut at = cell;
-        let mut steps = 0;
-        while parents[usize::from(at)] != at && steps < parents.len() {
-            at = parents[usize::from(at)];
-            steps += 1;
-        }
-        steps
-    };
-    (0..CELLS as u16).map(steps).max().unwrap_or(0)
+/// How a walk goes on that is too long.
+enum Walk {
+    Ends,
+    Circles,
+}
+
+/// The walk of the first cell that takes too many steps. One that takes as many as
+/// there are cells goes in a circle.
+fn longer_than_most(parents: &[u16; 1024]) -> Option<Walk> {
+    let after = |cell: usize, steps: usize| (0..steps).fold(cell, |at, _| usize::from(parents[at]));
+    let is_root = |cell: usize| usize::from(parents[cell]) == cell;
+    let cell = (0..parents.len()).find(|&cell| !is_root(after(cell, MOST_STEPS)))?;
+    if is_root(after(cell, parents.len())) {
+        Some(Walk::Ends)
+    } else {
+        Some(Walk::Circles)
+    }
 }
