@@ -83,3 +83,81 @@ fn write(log: &mut [u16], history: &History, call: &Call) {
         _ => {}
     }
 }
+
+/// What the library may not do is done to its state here, and has to be noticed.
+#[cfg(test)]
+mod tests {
+    use super::*;
+    use oracle::Settings;
+
+    const JOINED: Call = Call::Joined {
+        first: 1,
+        second: 2,
+    };
+
+    const LINK: Call = Call::Link {
+        tick: 7,
+        a: 1,
+        b: 2,
+        log_places: LOG_PLACES,
+    };
+
+    fn opened() -> Lockstep {
+        let mut books = Lockstep::new();
+        let settings = Settings {
+            n: 3,
+            b: 10,
+            mounting: 1,
+            t0: 0,
+        };
+        let opening = Call::Opening {
+            settings,
+            log_places: LOG_PLACES,
+        };
+        books.put(&opening).unwrap();
+        books
+    }
+
+    fn difference(books: &mut Lockstep, call: &Call) -> String {
+        books.put(call).unwrap_err().to_string()
+    }
+
+    #[test]
+    fn another_answer_is_noticed() {
+        let mut books = opened();
+        books.library.book.forward_parent[2] = 1;
+        assert_eq!(
+            difference(&mut books, &JOINED),
+            "Joined { first: 1, second: 2 }
+  has to give Joined { number: 0, joined: false, steps: 0 }
+  and gave    Joined { number: 0, joined: true, steps: 1 }"
+        );
+    }
+
+    #[test]
+    fn a_changed_field_is_noticed() {
+        let mut books = opened();
+        books.library.book.backward_label[1023] = 3;
+        let text = difference(&mut books, &LINK);
+        assert!(text.contains("backward_label[1023] 0"), "{text}");
+    }
+
+    #[test]
+    fn a_changed_log_is_noticed() {
+        for place in [0, LOG_PLACES - 1, LOG_PLACES, streams::MOST_LOG_PLACES - 1] {
+            let mut books = opened();
+            books.library.log[place] ^= 1;
+            let text = difference(&mut books, &JOINED);
+            assert!(text.contains(&format!("log[{place}]")), "{text}");
+        }
+    }
+
+    #[test]
+    fn a_link_that_is_lost_is_noticed() {
+        let mut books = opened();
+        let before = books.library.clone();
+        books.put(&LINK).unwrap();
+        books.library = before;
+        difference(&mut books, &JOINED);
+    }
+}

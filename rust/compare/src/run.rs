@@ -35,21 +35,33 @@ pub fn on_all_cores<J: Send, R: Send>(jobs: Vec<J>, work: impl Fn(J) -> R + Sync
     done.into_iter().map(|of| of.1).collect()
 }
 
-/// Prints what a run saw and what was wrong, and says whether it has passed: it
-/// has where no job found a difference and no class stayed empty.
-pub fn verdict(tally: &Tally, differences: &[String]) -> ExitCode {
-    print!("{tally}");
-    for difference in differences.iter().take(5) {
-        println!("DIFFERENCE: {difference}");
+/// Adds up what the jobs saw; gives what was wrong with the others.
+pub fn add_up(tally: &mut Tally, results: Vec<Result<Tally, String>>) -> Vec<String> {
+    let mut wrong = Vec::new();
+    for result in results {
+        match result {
+            Ok(seen) => tally.add(&seen),
+            Err(difference) => wrong.push(difference),
+        }
     }
-    if differences.len() > 5 {
-        println!("and {} more streams differ", differences.len() - 5);
+    wrong
+}
+
+/// Prints what a run saw and what was wrong, and says whether it has passed: it
+/// has where nothing was wrong and no class stayed empty.
+pub fn verdict(tally: &Tally, wrong: &[String]) -> ExitCode {
+    print!("{tally}");
+    for text in wrong.iter().take(5) {
+        println!("WRONG: {text}");
+    }
+    if wrong.len() > 5 {
+        println!("WRONG: {} more like these", wrong.len() - 5);
     }
     let empty = tally.empty();
     for class in &empty {
         println!("NEVER SEEN: {class}");
     }
-    if differences.is_empty() && empty.is_empty() {
+    if wrong.is_empty() && empty.is_empty() {
         ExitCode::SUCCESS
     } else {
         ExitCode::FAILURE

@@ -33,11 +33,6 @@ impl Tally {
         *self.at(row, class) += 1;
     }
 
-    /// How often a class was seen.
-    pub fn seen(&mut self, row: &str, class: &str) -> u64 {
-        *self.at(row, class)
-    }
-
     fn at(&mut self, row: &str, class: &str) -> &mut u64 {
         self.rows
             .iter_mut()
@@ -45,6 +40,13 @@ impl Tally {
             .and_then(|of| of.classes.iter_mut().find(|of| of.0 == class))
             .map(|of| &mut of.1)
             .unwrap_or_else(|| panic!("{row}: {class} is no class that may be seen"))
+    }
+
+    /// How often the classes of a row were seen, in their order.
+    pub fn seen(&self, row: &str) -> Vec<u64> {
+        let mut rows = self.rows.iter().filter(|of| of.name == row);
+        let row = rows.next().expect("a row that was declared");
+        row.classes.iter().map(|of| of.1).collect()
     }
 
     /// What another tally of the same rows has seen as well.
@@ -100,8 +102,9 @@ pub type Spans = [(u64, &'static str)];
 
 /// The class that a number is in.
 pub fn span(spans: &Spans, number: u64) -> &'static str {
-    let begun = spans.iter().filter(|of| of.0 <= number);
-    begun.last().expect("a span that has begun").1
+    let mut latest_first = spans.iter().rev();
+    let begun = latest_first.find(|of| of.0 <= number);
+    begun.expect("a span that has begun").1
 }
 
 #[cfg(test)]
@@ -121,7 +124,7 @@ mod tests {
         other.count("hold", "0");
         tally.add(&other);
         assert_eq!(tally.empty(), ["joined: yes"]);
-        assert_eq!(tally.seen("joined", "no"), 1);
+        assert_eq!(tally.seen("joined"), [0, 1]);
     }
 
     #[test]

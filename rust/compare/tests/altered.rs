@@ -24,20 +24,18 @@ fn main() -> ExitCode {
     let lots: Vec<u64> = (0..LOTS).map(|_| dice.bits()).collect();
 
     let mut tally = seen::tally();
-    let mut differences = Vec::new();
-    for result in run::on_all_cores(lots, |lot| compare(lot, &left)) {
-        match result {
-            Ok(seen) => tally.add(&seen),
-            Err(difference) => differences.push(format!("seed {seed}, {difference}")),
-        }
+    let results = run::on_all_cores(lots, |lot| compare(lot, &left));
+    let mut wrong = run::add_up(&mut tally, results);
+    let at_first = tally.seen("at first");
+    let (in_order, not_in_order) = (at_first[0], at_first[1]);
+    if in_order < not_in_order {
+        wrong.push("fewer than half of the books are in order".to_string());
     }
-    let seconds = start.elapsed().as_secs_f64();
-    let (asked, books) = (LOTS * BOOKS * CALLS, LOTS * BOOKS);
-    println!("{asked} calls to {books} books, each with its whole answer, book and log, in {seconds:.1} s");
-    if 2 * tally.seen("at first", "in order") < books {
-        differences.push("fewer than half of the books are in order".to_string());
-    }
-    run::verdict(&tally, &differences)
+    let (seconds, books) = (start.elapsed().as_secs_f64(), in_order + not_in_order);
+    println!(
+        "{books} books, {CALLS} calls to each, whole answers, books and logs, in {seconds:.1} s"
+    );
+    run::verdict(&tally, &wrong)
 }
 
 /// Puts calls to the books of a lot, to the library and to what is said of it.

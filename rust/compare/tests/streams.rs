@@ -30,40 +30,29 @@ fn main() -> ExitCode {
     streams.extend(file_streams(&mut dice));
 
     let mut tally = seen::tally();
-    let mut calls = 0;
-    let mut differences = Vec::new();
-    for result in run::on_all_cores(streams, compare) {
-        match result {
-            Ok((asked, seen)) => {
-                calls += asked;
-                tally.add(&seen);
-            }
-            Err(difference) => differences.push(format!("seed {seed}, {difference}")),
-        }
+    let mut wrong = run::add_up(&mut tally, run::on_all_cores(streams, compare));
+    let calls: u64 = tally.seen("stream, calls").iter().sum();
+    if calls < 1_000_000 {
+        wrong.push("fewer than a million calls".to_string());
     }
     let seconds = start.elapsed().as_secs_f64();
     println!("{calls} calls, each with its whole answer, book and log, in {seconds:.1} s");
-    if calls < 1_000_000 {
-        differences.push("fewer than a million calls".to_string());
-    }
-    run::verdict(&tally, &differences)
+    run::verdict(&tally, &wrong)
 }
 
-/// Puts a stream to both; how many calls it had and what they were.
-fn compare(stream: Stream) -> Result<(u64, Tally), String> {
-    let mut lockstep = Lockstep::new();
+/// Puts a stream to both, and gives what its calls were.
+fn compare(stream: Stream) -> Result<Tally, String> {
+    let mut books = Lockstep::new();
     let mut tally = seen::tally();
-    let mut asked = 0;
-    for call in stream.calls {
-        let before = lockstep.history().map(seen::Moment::of);
-        let answer = lockstep
+    for (place, call) in stream.calls.enumerate() {
+        let before = books.history().map(seen::Moment::of);
+        let answer = books
             .put(&call)
-            .map_err(|difference| format!("{}, call {asked}: {difference}", stream.name))?;
-        seen::count(&mut tally, before, lockstep.history(), &call, &answer);
+            .map_err(|difference| format!("{}, call {place}: {difference}", stream.name))?;
+        seen::count(&mut tally, before, books.history(), &call, &answer);
         tally.count("stream, calls", stream.kind);
-        asked += 1;
     }
-    Ok((asked, tally))
+    Ok(tally)
 }
 
 fn random_streams(dice: &mut Dice) -> Vec<Stream> {

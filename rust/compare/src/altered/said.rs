@@ -256,7 +256,7 @@ fn logged_links(state: &State, spot: usize) -> Vec<(u32, u32)> {
 }
 
 /// The window's slides, as far as they exist, with the links that the log holds.
-fn logged_window(state: &State) -> History {
+pub fn logged_window(state: &State) -> History {
     let settings = settings_of(&state.book);
     let mut history = History {
         settings,

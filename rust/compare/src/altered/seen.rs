@@ -3,10 +3,18 @@
 use super::books::KINDS;
 use super::order::{disorder, REASONS};
 use super::said;
+use crate::fields::spot;
 use crate::state::State;
-use crate::tally::{number, Tally, NUMBERS};
-use oracle::{is_cell, CHAIN_PLACES, LOG_PLACES};
+use crate::tally::{number, span, Spans, Tally, NUMBERS};
+use oracle::{CHAIN_PLACES, LOG_PLACES};
 use streams::{Answer, Call};
+
+const STEPS: &Spans = &[
+    (0, "0"),
+    (1, "1 to 9"),
+    (10, "10 to 19"),
+    (20, "20 and more"),
+];
 
 /// The rows that [`count`] and [`count_book`] fill.
 pub fn tally() -> Tally {
@@ -38,11 +46,10 @@ pub fn tally() -> Tally {
             &["still in order", "a size over 1,024", "a walk over 10"],
         ),
         ("two cells joined", &["yes", "no"]),
+        ("steps", &["0", "1 to 9", "10 to 19", "20 and more"]),
         ("forests and log", &["agree", "disagree"]),
-        (
-            "the log",
-            &["has cells alone", "has an entry that is no cell"],
-        ),
+        ("chain, in chunk", &["0", "a later one"]),
+        ("chain, by", &["links alone", "pairs that are no links"]),
         ("hold of two cells", &NUMBERS[..16]),
         ("hold of a cell with itself", &NUMBERS[1..]),
     ])
@@ -54,13 +61,6 @@ pub fn count_book(tally: &mut Tally, kind: &str, state: &State) {
     let in_order = disorder(&state.book).is_none();
     let order = if in_order { "in order" } else { "not in order" };
     tally.count("at first", order);
-    let cells = state.log.iter().all(|&entry| is_cell(u32::from(entry)));
-    let log = if cells {
-        "has cells alone"
-    } else {
-        "has an entry that is no cell"
-    };
-    tally.count("the log", log);
 }
 
 /// Counts a call: the states are those before and after it.
@@ -93,7 +93,10 @@ fn count_done(tally: &mut Tally, before: &State, after: &State, call: &Call, ans
             tally.count("after a link", order);
         }
         (Call::Clock { tick, .. }, _) => count_time(tally, before, *tick),
-        (Call::Joined { first, second }, Answer::Joined { joined, .. }) if first != second => {
+        (Call::Joined { first, second }, Answer::Joined { joined, steps, .. })
+            if first != second =>
+        {
+            tally.count("steps", span(STEPS, u64::from(*steps)));
             tally.count("two cells joined", if *joined { "yes" } else { "no" });
             let chained = is_chained(after, *first, *second);
             let agree = chained == *joined;
@@ -106,6 +109,7 @@ fn count_done(tally: &mut Tally, before: &State, after: &State, call: &Call, ans
                 "hold of two cells"
             };
             tally.count(row, number(*hold));
+            count_window(tally, after);
         }
         _ => {}
     }
@@ -136,6 +140,22 @@ fn slide_before(before: &State, tick: u32) -> &'static str {
         (true, false, 0) => "later, empty",
         (true, false, _) => "later",
     }
+}
+
+fn count_window(tally: &mut Tally, state: &State) {
+    let (chunk, _) = said::chunk_and_place(&state.book, state.book.clock.time);
+    let chunk = if chunk == 0 { "0" } else { "a later one" };
+    tally.count("chain, in chunk", chunk);
+    let window = said::logged_window(state);
+    let spots = (window.oldest_slide()..=window.open_slide())
+        .map(|slide| spot(slide / window.n(), slide % window.n()));
+    let counted: usize = spots.map(|spot| usize::from(state.book.counts[spot])).sum();
+    let pairs = if window.links.len() == counted {
+        "links alone"
+    } else {
+        "pairs that are no links"
+    };
+    tally.count("chain, by", pairs);
 }
 
 /// Whether the log chains two cells, whatever the forests say.
