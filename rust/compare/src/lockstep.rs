@@ -7,23 +7,30 @@ use crate::state::State;
 use oracle::{Book, History, LOG_PLACES};
 use streams::{ask, Answer, Call};
 
+/// To build a chunk's forests anew takes its time. Where the two chunks hold more
+/// links than this, the book is looked at after one call in so many.
+const MANY_LINKS: usize = 128;
+const INTERVAL: u64 = 16;
+
 /// Two books, the oracle's and the library's, that went through the same calls.
 #[derive(Clone, Debug)]
 pub struct Lockstep {
     oracle: Book,
     library: State,
-    /// What the library's log has to hold.
-    log: Vec<u16>,
+    /// What the library's state has to be.
+    expected: State,
+    /// How many calls there were.
+    calls: u64,
 }
 
 impl Lockstep {
     /// Two books that were never opened.
     pub fn new() -> Lockstep {
-        let library = State::never_opened();
         Lockstep {
             oracle: Book::new(),
-            log: library.log.clone(),
-            library,
+            library: State::never_opened(),
+            expected: State::never_opened(),
+            calls: 0,
         }
     }
 
@@ -37,29 +44,38 @@ impl Lockstep {
     /// done leaves the book that [`book_of`] builds, and in the log writes a link
     /// to its two places, an opening zeros to the first 16,384, and nothing else.
     pub fn put(&mut self, call: &Call) -> Result<Answer, Difference> {
-        let before = self.library.book.clone();
+        self.calls += 1;
         let answer = ask(&mut self.oracle, call);
         let given = library::ask(&mut self.library, call);
         Difference::of_answers(call, &answer, &given)?;
-
-        let done = answer.number() == 0;
-        let book = match (&self.oracle.history, call) {
-            (Some(history), Call::Opening { .. } | Call::Link { .. } | Call::Clock { .. })
-                if done =>
-            {
-                write(&mut self.log, history, call);
-                book_of(history)
-            }
-            _ => before,
-        };
-        if self.library.book != book || self.library.log != self.log {
-            let expected = State {
-                book,
-                log: self.log.clone(),
-            };
-            Difference::of_states(call, &expected, &self.library)?;
+        if answer.number() == 0 {
+            self.follow(call);
         }
+        Difference::of_states(call, &self.expected, &self.library)?;
         Ok(answer)
+    }
+
+    /// The expected state after a call that was done.
+    fn follow(&mut self, call: &Call) {
+        let moves = matches!(
+            call,
+            Call::Opening { .. } | Call::Link { .. } | Call::Clock { .. }
+        );
+        if let (true, Some(history)) = (moves, &self.oracle.history) {
+            write(&mut self.expected.log, history, call);
+            self.expected.book = if self.is_due(history) {
+                book_of(history)
+            } else {
+                self.library.book.clone()
+            };
+        }
+    }
+
+    /// Whether the whole book is looked at after this call.
+    fn is_due(&self, history: &History) -> bool {
+        let first = history.open_chunk().saturating_sub(1) * history.n();
+        let links = history.links_of_slides(first, history.open_slide());
+        links.len() <= MANY_LINKS || self.calls % INTERVAL == 0
     }
 }
 
