@@ -1,7 +1,7 @@
 //! The book's fields and the log's places, as docs/BOOK.md lays them out.
 
 use kerb::{Book, Clock};
-use oracle::{Forest, History, LINKS_PER_SLIDE};
+use oracle::{Forest, History, Settings, LINKS_PER_SLIDE};
 
 /// Places that each of the two halves has in the counts, whatever n is.
 pub const HALF: usize = 16;
@@ -14,6 +14,25 @@ pub fn spot(chunk: u64, place: u64) -> usize {
 /// Where the log holds the first cell of link `i` of a spot; the second follows.
 pub fn log_place(spot: usize, i: usize) -> usize {
     2 * (spot * LINKS_PER_SLIDE + i)
+}
+
+/// A book that was never opened: 0 in every field.
+pub fn never_opened() -> Book {
+    Book {
+        forward_parent: [0; 1024],
+        forward_size: [0; 1024],
+        backward_parent: [0; 1024],
+        backward_size: [0; 1024],
+        counts: [0; 2 * HALF],
+        clock: Clock {
+            t0: 0,
+            b: 0,
+            time: 0,
+            n: 0,
+        },
+        backward_label: [0; 1024],
+        mounting: 0,
+    }
 }
 
 /// The book that a history has to have, each forest built anew by the rule.
@@ -34,6 +53,16 @@ pub fn book_of(history: &History) -> Book {
         },
         backward_label: labels_of(&backward),
         mounting: history.settings.mounting as u8,
+    }
+}
+
+/// What a book was opened with.
+pub fn settings_of(book: &Book) -> Settings {
+    Settings {
+        n: u32::from(book.clock.n),
+        b: book.clock.b,
+        mounting: u32::from(book.mounting),
+        t0: book.clock.t0,
     }
 }
 

@@ -7,13 +7,15 @@
 //!   oracle's out in a book's fields, as docs/BOOK.md has them;
 //! - [`altered`] does it for books that calls did not leave, with docs/BOOK.md
 //!   in the oracle's place;
-//! - [`seen`] says which classes a call falls in, by the oracle's data alone;
-//!   [`Tally`] counts them and knows which stayed empty;
+//! - [`seen`] says which classes a call falls in, by the oracle's data alone, the
+//!   crossings that were needed and the ties among them; [`Tally`] counts them
+//!   and knows which stayed empty;
 //! - [`run`] has what the runs share: the seed, the cores, the verdict.
 
 #![forbid(unsafe_code)]
 
 pub mod altered;
+mod crossings;
 mod difference;
 pub mod fields;
 pub mod library;
@@ -22,6 +24,7 @@ pub mod run;
 pub mod seen;
 mod state;
 mod tally;
+mod ties;
 
 pub use difference::Difference;
 pub use lockstep::Lockstep;

@@ -1,7 +1,7 @@
 //! The oracle and the library side by side: every call is put to both.
 
 use crate::difference::Difference;
-use crate::fields::{book_of, log_place, spot};
+use crate::fields::{book_of, log_place, never_opened, spot};
 use crate::library;
 use crate::state::State;
 use oracle::{Book, History, LOG_PLACES};
@@ -28,8 +28,8 @@ impl Lockstep {
     pub fn new() -> Lockstep {
         Lockstep {
             oracle: Book::new(),
-            library: State::never_opened(),
-            expected: State::never_opened(),
+            library: State::with_new_log(kerb::Book::never_opened()),
+            expected: State::with_new_log(never_opened()),
             calls: 0,
         }
     }

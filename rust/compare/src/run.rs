@@ -49,19 +49,19 @@ pub fn add_up(tally: &mut Tally, results: Vec<Result<Tally, String>>) -> Vec<Str
 
 /// Prints what a run saw and what was wrong, and says whether it has passed: it
 /// has where nothing was wrong and no class stayed empty.
-pub fn verdict(tally: &Tally, wrong: &[String]) -> ExitCode {
+pub fn verdict(seed: u64, tally: &Tally, mut wrong: Vec<String>) -> ExitCode {
     print!("{tally}");
+    if wrong.is_empty() {
+        let never_seen = |class| format!("never seen: {class}");
+        wrong = tally.empty().into_iter().map(never_seen).collect();
+    }
     for text in wrong.iter().take(5) {
-        println!("WRONG: {text}");
+        println!("WRONG, seed {seed}: {text}");
     }
     if wrong.len() > 5 {
-        println!("WRONG: {} more like these", wrong.len() - 5);
+        println!("WRONG: {} more", wrong.len() - 5);
     }
-    let empty = tally.empty();
-    for class in &empty {
-        println!("NEVER SEEN: {class}");
-    }
-    if wrong.is_empty() && empty.is_empty() {
+    if wrong.is_empty() {
         ExitCode::SUCCESS
     } else {
         ExitCode::FAILURE

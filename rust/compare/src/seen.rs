@@ -1,8 +1,10 @@
 //! Which classes a call falls in. Everything is computed from the oracle's
 //! history and answer; the library has no say in it.
 
+use crate::crossings::crossings;
 use crate::tally::{number, span, Spans, Tally, NUMBERS};
-use oracle::{CellSet, History, Linked, Settings};
+use crate::ties::has_ties;
+use oracle::{History, Link, Settings};
 use streams::{Answer, Call};
 
 const B: &Spans = &[
@@ -219,7 +221,7 @@ fn count_link(tally: &mut Tally, history: &History) {
         .window()
         .split_last()
         .expect("the link that was taken");
-    let pair = |of: &oracle::Link| (of.a.min(of.b), of.a.max(of.b));
+    let pair = |of: &Link| (of.a.min(of.b), of.a.max(of.b));
     let kind = if link.a == link.b {
         "of a cell with itself"
     } else if others.iter().any(|other| pair(other) == pair(link)) {
@@ -263,105 +265,4 @@ fn count_chain(tally: &mut Tally, history: &History, l: u64, chain: &[u16]) {
     tally.count("links of a chain", span(LINKS_OF_CHAIN, links));
     let ties = has_ties(history, l, chain);
     tally.count("shortest chains", if ties { "ties" } else { "one" });
-}
-
-/// How often one has to cross from a group of one chunk's links to a group of
-/// the other's, at the least, on the way between two cells that are joined.
-pub fn crossings(history: &History, first: u32, second: u32) -> u64 {
-    let start_of_chunk = history.open_chunk() * history.n();
-    let window = history.window();
-    let older = window.partition_point(|link| link.slide < start_of_chunk);
-    let backward = Linked::by(&window[..older]);
-    let forward = Linked::by(&window[older..]);
-    let either_way = [[&backward, &forward], [&forward, &backward]];
-    let ways = either_way.iter();
-    ways.filter_map(|sides| crossings_from(sides, first, second))
-        .min()
-        .expect("two cells that are joined")
-}
-
-/// The same, for a way that begins in a group of the first of the two sides.
-fn crossings_from(sides: &[&Linked; 2], first: u32, second: u32) -> Option<u64> {
-    let mut met = CellSet::EMPTY;
-    met.insert(first);
-    let mut new = met;
-    for crossings in 0.. {
-        let side = sides[crossings % 2];
-        let mut reached = CellSet::EMPTY;
-        for cell in new.cells() {
-            if !reached.contains(cell) {
-                reached.insert_all(&side.group_of(cell));
-            }
-        }
-        if reached.contains(second) {
-            return Some(crossings as u64);
-        }
-        new = reached.without(&met);
-        if new == CellSet::EMPTY {
-            return None;
-        }
-        met.insert_all(&new);
-    }
-    unreachable!("each round but the last meets a new cell")
-}
-
-/// Whether links from slide L on have more than one chain with the fewest links:
-/// another one leaves the given one at some cell, so that cell is linked with two
-/// cells or more that are one link nearer to the end.
-pub fn has_ties(history: &History, l: u64, chain: &[u16]) -> bool {
-    let linked = Linked::by(history.links_of_slides(l, history.open_slide()));
-    let end = chain[chain.len() - 1];
-    let to_go = linked.fewest_links_from(u32::from(end));
-    chain[..chain.len() - 1].iter().any(|&cell| {
-        let nearer = to_go[usize::from(cell)].map(|links| links - 1);
-        let next = linked.with(u32::from(cell)).cells();
-        next.filter(|&cell| to_go[cell as usize] == nearer).count() >= 2
-    })
-}
-
-#[cfg(test)]
-mod tests {
-    use super::*;
-    use oracle::{Book, LOG_PLACES};
-
-    /// n 2, B 1, T0 0, mounting 1.
-    fn history(links: &[(u32, u32, u32)]) -> History {
-        let mut book = Book::new();
-        let settings = Settings {
-            n: 2,
-            b: 1,
-            mounting: 1,
-            t0: 0,
-        };
-        book.opening(settings, LOG_PLACES).unwrap();
-        for &(tick, a, b) in links {
-            book.link(tick, a, b, LOG_PLACES).unwrap();
-        }
-        book.history.unwrap()
-    }
-
-    /// P12 of the document.
-    #[test]
-    fn p12_needs_three_crossings() {
-        let history = history(&[(1, 10, 11), (1, 12, 13), (2, 11, 12), (2, 13, 14)]);
-        let to = |cell| crossings(&history, 10, cell);
-        assert_eq!([11, 12, 13, 14].map(to), [0, 1, 2, 3]);
-        assert_eq!(crossings(&history, 14, 10), 3);
-        assert_eq!(crossings(&history, 12, 13), 0);
-    }
-
-    #[test]
-    fn a_way_round_four_cells_is_a_tie() {
-        let history = history(&[(2, 1, 2), (2, 2, 3), (2, 3, 4), (2, 4, 1)]);
-        assert!(has_ties(&history, 2, &[1, 2, 3]));
-        assert!(!has_ties(&history, 2, &[1, 2]));
-    }
-
-    /// The second way round has an older link, and L leaves it out.
-    #[test]
-    fn links_before_l_make_no_tie() {
-        let history = history(&[(1, 4, 1), (2, 1, 2), (2, 2, 3), (2, 3, 4)]);
-        assert!(!has_ties(&history, 2, &[1, 2, 3]));
-        assert!(has_ties(&history, 1, &[1, 2, 3]));
-    }
 }

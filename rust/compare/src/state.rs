@@ -12,11 +12,11 @@ pub struct State {
 }
 
 impl State {
-    /// A book that was never opened. No place of its log is 0 or a cell, so that
-    /// one sees which of them a call has written to.
-    pub fn never_opened() -> State {
+    /// A book with a log that no call has written to: none of its places is 0 or a
+    /// cell, so that one sees which of them a call writes to.
+    pub fn with_new_log(book: Book) -> State {
         State {
-            book: Book::never_opened(),
+            book,
             log: lent_places(MOST_LOG_PLACES),
         }
     }

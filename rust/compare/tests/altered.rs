@@ -35,7 +35,7 @@ fn main() -> ExitCode {
     println!(
         "{books} books, {CALLS} calls to each, whole answers, books and logs, in {seconds:.1} s"
     );
-    run::verdict(&tally, &wrong)
+    run::verdict(seed, &tally, wrong)
 }
 
 /// Puts calls to the books of a lot, to the library and to what is said of it.

@@ -37,7 +37,7 @@ fn main() -> ExitCode {
     }
     let seconds = start.elapsed().as_secs_f64();
     println!("{calls} calls, each with its whole answer, book and log, in {seconds:.1} s");
-    run::verdict(&tally, &wrong)
+    run::verdict(seed, &tally, wrong)
 }
 
 /// Puts a stream to both, and gives what its calls were.

@@ -3,7 +3,7 @@
 //! here it is put to whatever the fields and the log hold.
 
 use super::order::disorder;
-use crate::fields::{book_of, labels_of, log_place, narrow, spot, HALF};
+use crate::fields::{book_of, labels_of, log_place, narrow, settings_of, spot, HALF};
 use crate::state::State;
 use kerb::Book;
 use oracle::{
@@ -155,15 +155,6 @@ fn not_before_time(book: &Book, tick: u32) -> Result<(), Refusal> {
 }
 
 // Slides, chunks and places, by the fields. The book is in order.
-
-fn settings_of(book: &Book) -> Settings {
-    Settings {
-        n: u32::from(book.clock.n),
-        b: book.clock.b,
-        mounting: u32::from(book.mounting),
-        t0: book.clock.t0,
-    }
-}
 
 /// The chunk and the place of a tick's slide.
 pub fn chunk_and_place(book: &Book, tick: u32) -> (u64, u64) {
