@@ -149,10 +149,15 @@ fn too_deep(dice: &mut Dice) -> Altered {
         }
         parents
     };
-    if dice.one_in(2) {
-        altered.state.book.forward_parent = parents;
+    let book = &mut altered.state.book;
+    let (parent, size) = if dice.one_in(2) {
+        (&mut book.forward_parent, &mut book.forward_size)
     } else {
-        altered.state.book.backward_parent = parents;
+        (&mut book.backward_parent, &mut book.backward_size)
+    };
+    *parent = parents;
+    if dice.one_in(2) {
+        *size = doubling_sizes(&parents);
     }
     altered.kind = "too deep or in a circle";
     altered.cells = cells;

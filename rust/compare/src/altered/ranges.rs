@@ -34,11 +34,12 @@ fn own_parents() -> [u16; 1024] {
     parents
 }
 
-/// Sizes that add up, or any.
+/// Sizes that add up, or double, or are any. For parents without a circle.
 pub fn draw_sizes(dice: &mut Dice, parents: &[u16; 1024]) -> [u16; 1024] {
-    match dice.below(4) {
+    match dice.below(5) {
         0 => true_sizes(parents),
-        1 => [dice.pick(&[1, 600, 1024]); 1024],
+        1 => doubling_sizes(parents),
+        2 => [dice.pick(&[1, 600, 1024]); 1024],
         _ => [0; 1024].map(|_| any_size(dice)),
     }
 }
@@ -51,6 +52,20 @@ fn true_sizes(parents: &[u16; 1024]) -> [u16; 1024] {
         while usize::from(parents[at]) != at {
             at = usize::from(parents[at]);
             sizes[at] += 1;
+        }
+    }
+    sizes
+}
+
+/// Sizes that double with each parent step, up to 1,024 at the roots. Where a walk
+/// is longer than 10, its first steps go from size 1 to size 1.
+pub fn doubling_sizes(parents: &[u16; 1024]) -> [u16; 1024] {
+    let mut sizes = [1024; 1024];
+    for (cell, size) in sizes.iter_mut().enumerate() {
+        let mut at = cell;
+        while usize::from(parents[at]) != at && *size > 1 {
+            at = usize::from(parents[at]);
+            *size /= 2;
         }
     }
     sizes
