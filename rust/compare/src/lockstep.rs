@@ -48,26 +48,25 @@ impl Lockstep {
         let answer = ask(&mut self.oracle, call);
         let given = library::ask(&mut self.library, call);
         Difference::of_answers(call, &answer, &given)?;
-        if answer.number() == 0 {
-            self.follow(call);
+        if let Answer::Number { number } = answer {
+            self.follow(call, number == 0);
         }
         Difference::of_states(call, &self.expected, &self.library)?;
         Ok(answer)
     }
 
-    /// The expected state after a call that was done.
-    fn follow(&mut self, call: &Call) {
-        let moves = matches!(
-            call,
-            Call::Opening { .. } | Call::Link { .. } | Call::Clock { .. }
-        );
-        if let (true, Some(history)) = (moves, &self.oracle.history) {
-            write(&mut self.expected.log, history, call);
-            self.expected.book = if self.is_due(history) {
-                book_of(history)
-            } else {
-                self.library.book.clone()
-            };
+    /// The expected state after an opening, a link or a clock call. After a refusal
+    /// the oracle's history still has to be that of the book.
+    fn follow(&mut self, call: &Call, done: bool) {
+        if let Some(history) = &self.oracle.history {
+            if done {
+                write(&mut self.expected.log, history, call);
+            }
+            if self.is_due(history) {
+                self.expected.book = book_of(history);
+            } else if done {
+                self.expected.book = self.library.book.clone();
+            }
         }
     }
 
