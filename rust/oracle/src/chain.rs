@@ -1,6 +1,6 @@
 //! "Chain and hold".
 
-use crate::book::{long_enough, Book, History};
+use crate::book::{long_enough, Book, History, LOG_PLACES};
 use crate::cells::{both_are_cells, CELLS};
 use crate::refusal::{refuse_if, Refusal};
 use crate::search::Linked;
@@ -22,9 +22,17 @@ pub struct Chain {
 impl Book {
     /// Chain: 1, 6, 3, 7, 8. The cells are in the lorry's numbers. The chain is
     /// written to the front of the lent buffer; later places keep what they
-    /// had, and a refusal writes nothing.
-    pub fn chain(&self, first: u32, second: u32, lent: &mut [u16]) -> Result<Chain, Refusal> {
+    /// had, and a refusal writes nothing. Number 6 is for either buffer, the
+    /// log or that of the chain.
+    pub fn chain(
+        &self,
+        first: u32,
+        second: u32,
+        log_places: usize,
+        lent: &mut [u16],
+    ) -> Result<Chain, Refusal> {
         let history = self.opened()?;
+        long_enough(log_places, LOG_PLACES)?;
         long_enough(lent.len(), CHAIN_PLACES)?;
         both_are_cells(first, second)?;
         let (l, cells) = history.trail(first, second).ok_or(Refusal::NoTrail)?;

@@ -13,11 +13,11 @@ pub struct Walk {
 #[derive(Clone)]
 pub struct Forest {
     /// A root is its own parent.
-    parent: [u32; CELLS as usize],
+    pub parent: [u32; CELLS as usize],
     /// For roots: how many cells their tree has.
-    size: [u32; CELLS as usize],
+    pub size: [u32; CELLS as usize],
     /// For all but roots: the place of the link that made the parent step.
-    label: [u64; CELLS as usize],
+    pub label: [u64; CELLS as usize],
 }
 
 impl Forest {

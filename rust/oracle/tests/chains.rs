@@ -53,7 +53,7 @@ fn a_cell_and_itself() {
 fn later_places_keep_what_they_had() {
     let book = listing_book();
     let mut lent = vec![7u16; 1024];
-    let answer = book.chain(3, 6, &mut lent).unwrap();
+    let answer = book.chain(3, 6, LOG_PLACES, &mut lent).unwrap();
     assert_eq!(
         answer,
         Chain {

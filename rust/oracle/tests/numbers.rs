@@ -128,13 +128,16 @@ fn chain_1_6_3_7() {
     let order = [1, 6, 3, 7];
     for mask in 0..16 {
         let book = book_for(&order, mask);
-        let places = CHAIN_PLACES - usize::from(has(&order, mask, 6));
+        let short = usize::from(has(&order, mask, 6));
         let untrailed = has(&order, mask, 7);
         let first = if untrailed { 9 } else { 1 };
         let second = if has(&order, mask, 3) { 1024 } else { 2 };
-        for (a, b) in [(first, second), (second, first)] {
+        for (a, b, log, places) in [
+            (first, second, LOG_PLACES, CHAIN_PLACES - short),
+            (second, first, LOG_PLACES - short, CHAIN_PLACES),
+        ] {
             let mut lent = vec![KEPT; places];
-            let answer = book.chain(a, b, &mut lent);
+            let answer = book.chain(a, b, log, &mut lent);
             assert_eq!(number(&answer), first_fault(&order, mask));
             if answer.is_err() {
                 let none = Chain {
@@ -215,6 +218,8 @@ fn log_places() {
         let mut book = full_book();
         assert_eq!(number(&book.clock(50, places)), expected);
         assert_eq!(number(&book.link(55, 1, 2, places)), expected);
+        let mut lent = vec![0; CHAIN_PLACES];
+        assert_eq!(number(&book.chain(2, 2, places, &mut lent)), expected);
     }
 }
 
@@ -222,7 +227,10 @@ fn log_places() {
 fn chain_places() {
     for (places, expected) in [(0, 6), (1_023, 6), (1_024, 0), (1_025, 0)] {
         let mut lent = vec![0; places];
-        assert_eq!(number(&full_book().chain(1, 2, &mut lent)), expected);
+        assert_eq!(
+            number(&full_book().chain(1, 2, LOG_PLACES, &mut lent)),
+            expected
+        );
     }
 }
 

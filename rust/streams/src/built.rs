@@ -79,6 +79,7 @@ impl Script {
         self.calls.push(Call::Chain {
             first,
             second,
+            log_places: LOG_PLACES,
             chain_places: CHAIN_PLACES,
         });
     }

@@ -1,11 +1,15 @@
 //! A call, and what it gives.
 
-use oracle::{number, Book, Settings, LOG_PLACES};
+use oracle::{number, Book, Refusal, Settings, LOG_PLACES};
 
 /// The longest log that a call of these streams lends. Who compares keeps one
 /// log of this length and lends its first `log_places` places; the document
 /// lets no call touch those from 16,384 on.
 pub const MOST_LOG_PLACES: usize = LOG_PLACES + 16;
+
+/// The output that the text of a listing needs. The document has the program
+/// kerblist alone; the call that it makes is in docs/CONTRACTS.md.
+pub const LISTING_BYTES: usize = 20_480;
 
 /// A call. Cells of links are in the unit's numbers, those of questions in the
 /// lorry's. The streams keep bad cells below 65,536 and bad n and mounting
@@ -33,6 +37,7 @@ pub enum Call {
     Chain {
         first: u32,
         second: u32,
+        log_places: usize,
         chain_places: usize,
     },
     /// The reader of link files.
@@ -45,9 +50,10 @@ pub enum Call {
         records: Vec<u8>,
         output_bytes: usize,
     },
-    /// The program kerblist.
+    /// What the program kerblist prints.
     List {
         file: Vec<u8>,
+        output_bytes: usize,
     },
 }
 
@@ -80,8 +86,11 @@ pub enum Answer {
         number: u32,
         output: Vec<u8>,
     },
+    /// The text is the front of the output; its number is 0 or 6.
     List {
-        text: String,
+        number: u32,
+        length: usize,
+        output: Vec<u8>,
     },
 }
 
@@ -97,7 +106,8 @@ pub fn lent_bytes(bytes: usize) -> Vec<u8> {
 }
 
 impl Answer {
-    /// The number of the table; for a listing 0 or the number it prints.
+    /// The number of the table; for a listing 6 or, in its text, 0 or the number
+    /// that is printed.
     pub fn number(&self) -> u32 {
         match self {
             Answer::Number { number }
@@ -105,15 +115,22 @@ impl Answer {
             | Answer::Chain { number, .. }
             | Answer::Read { number, .. }
             | Answer::Write { number, .. } => *number,
-            Answer::List { text } => number_in_listing(text),
+            Answer::List {
+                number: 0,
+                length,
+                output,
+            } => number_in_listing(&output[..*length]),
+            Answer::List { number, .. } => *number,
         }
     }
 }
 
-fn number_in_listing(text: &str) -> u32 {
+/// 0 where the text is no refusal with a number.
+fn number_in_listing(text: &[u8]) -> u32 {
+    let text = String::from_utf8_lossy(text);
     let mut words = text.split_whitespace();
     match (words.next(), words.next()) {
-        (Some("refused"), Some(number)) => number.parse().expect("a number"),
+        (Some("refused"), Some(number)) => number.parse().unwrap_or(0),
         _ => 0,
     }
 }
@@ -142,17 +159,16 @@ pub fn ask(book: &mut Book, call: &Call) -> Answer {
         Call::Chain {
             first,
             second,
+            log_places,
             chain_places,
-        } => ask_chain(book, *first, *second, *chain_places),
+        } => ask_chain(book, *first, *second, *log_places, *chain_places),
         Call::Read { file } => ask_read(file),
         Call::Write {
             settings,
             records,
             output_bytes,
         } => ask_write(*settings, records, *output_bytes),
-        Call::List { file } => Answer::List {
-            text: oracle::listing(file),
-        },
+        Call::List { file, output_bytes } => ask_list(file, *output_bytes),
     }
 }
 
@@ -166,9 +182,15 @@ fn ask_joined(book: &Book, first: u32, second: u32) -> Answer {
     }
 }
 
-fn ask_chain(book: &Book, first: u32, second: u32, places: usize) -> Answer {
-    let mut lent = lent_places(places);
-    let answer = book.chain(first, second, &mut lent);
+fn ask_chain(
+    book: &Book,
+    first: u32,
+    second: u32,
+    log_places: usize,
+    chain_places: usize,
+) -> Answer {
+    let mut lent = lent_places(chain_places);
+    let answer = book.chain(first, second, log_places, &mut lent);
     let fields = answer.unwrap_or_default();
     Answer::Chain {
         number: number(&answer),
@@ -193,4 +215,22 @@ fn ask_write(settings: Settings, records: &[u8], bytes: usize) -> Answer {
     let mut output = lent_bytes(bytes);
     let number = number(&oracle::write(settings, records, &mut output));
     Answer::Write { number, output }
+}
+
+fn ask_list(file: &[u8], bytes: usize) -> Answer {
+    let mut output = lent_bytes(bytes);
+    if bytes < LISTING_BYTES {
+        return Answer::List {
+            number: Refusal::Buffer.number(),
+            length: 0,
+            output,
+        };
+    }
+    let text = oracle::listing(file);
+    output[..text.len()].copy_from_slice(text.as_bytes());
+    Answer::List {
+        number: 0,
+        length: text.len(),
+        output,
+    }
 }

@@ -1,6 +1,6 @@
 //! Link files, valid and damaged in every field, and calls of the writer.
 
-use crate::call::Call;
+use crate::call::{Call, LISTING_BYTES};
 use crate::dice::Dice;
 use crate::random::{draw_settings, spoil_settings, touching_cell};
 use oracle::{
@@ -39,8 +39,20 @@ impl Iterator for Files {
         if self.dice.one_in(2) {
             damage(&mut self.dice, &mut file);
         }
-        self.next = Some(Call::List { file: file.clone() });
+        self.next = Some(Call::List {
+            file: file.clone(),
+            output_bytes: listing_room(&mut self.dice),
+        });
         Some(Call::Read { file })
+    }
+}
+
+/// Room for a listing's text: mostly just enough, sometimes more or too little.
+fn listing_room(dice: &mut Dice) -> usize {
+    match dice.below(8) {
+        0 => dice.pick(&[0, 1, LISTING_BYTES / 2, LISTING_BYTES - 1]),
+        1 => LISTING_BYTES + dice.between(1, 40) as usize,
+        _ => LISTING_BYTES,
     }
 }
 

@@ -14,6 +14,6 @@ mod dice;
 pub mod files;
 mod random;
 
-pub use call::{ask, lent_bytes, lent_places, Answer, Call, MOST_LOG_PLACES};
+pub use call::{ask, lent_bytes, lent_places, Answer, Call, LISTING_BYTES, MOST_LOG_PLACES};
 pub use dice::Dice;
-pub use random::{Kind, Random};
+pub use random::{draw_settings, Kind, Random};

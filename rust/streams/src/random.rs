@@ -181,6 +181,7 @@ impl Random {
             Call::Chain {
                 first,
                 second,
+                log_places: self.log_places(),
                 chain_places: self.chain_places(),
             }
         }
@@ -430,7 +431,7 @@ fn short_log(dice: &mut Dice) -> usize {
 
 /// Settings that are taken: all n, both mountings, small and huge B, T0 near
 /// either end of the range and between.
-pub(crate) fn draw_settings(dice: &mut Dice) -> Settings {
+pub fn draw_settings(dice: &mut Dice) -> Settings {
     Settings {
         n: dice.between(1, 16) as u32,
         b: draw_b(dice),

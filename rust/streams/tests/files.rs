@@ -78,7 +78,7 @@ fn calls_with_files_give_every_number() {
     }
     assert_eq!(read, BTreeSet::from([0, 2, 9, 10, 11, 12]));
     assert_eq!(write, BTreeSet::from([0, 2, 6, 9]));
-    assert_eq!(list, BTreeSet::from([0, 2, 3, 4, 5, 9, 10, 11, 12]));
+    assert_eq!(list, BTreeSet::from([0, 2, 3, 4, 5, 6, 9, 10, 11, 12]));
     assert_eq!(book, Book::new());
 }
 

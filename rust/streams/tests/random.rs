@@ -35,7 +35,7 @@ fn every_call_gives_every_number() {
     for kind in KINDS {
         let mut given: BTreeMap<&str, BTreeSet<u32>> = BTreeMap::new();
         // Several seeds: each starts with a book that was never opened.
-        for seed in 0..20 {
+        for seed in 0..60 {
             let mut book = Book::new();
             for call in Random::new(seed, kind).take(2_000) {
                 let before = book.clone();

@@ -41,7 +41,7 @@ pub fn joined(book: &Book, a: u32, b: u32) -> (bool, u32) {
 /// (L, hold, the cells of the chain), after looking at the lent buffer.
 pub fn chain(book: &Book, a: u32, b: u32) -> Result<(u64, u32, Vec<u16>), Refusal> {
     let mut lent = [KEPT; CHAIN_PLACES + 3];
-    let answer = book.chain(a, b, &mut lent);
+    let answer = book.chain(a, b, LOG_PLACES, &mut lent);
     let cells = answer.unwrap_or_default().cells as usize;
     assert!(lent[cells..].iter().all(|&place| place == KEPT));
     answer.map(|chain| (chain.l, chain.hold, lent[..cells].to_vec()))

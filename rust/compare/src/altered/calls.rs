@@ -1,0 +1,84 @@
+//! Calls for an altered book: to its cells, at ticks round its time, with all
+//! that a call can be refused for now and then.
+
+use crate::state::State;
+use oracle::{CHAIN_PLACES, LOG_PLACES};
+use streams::{draw_settings, Call, Dice, MOST_LOG_PLACES};
+
+/// One argument in so many is spoilt.
+const SPOILT: u64 = 25;
+
+/// Draws a call.
+pub fn draw(dice: &mut Dice, state: &State, cells: &[u32]) -> Call {
+    match dice.below(24) {
+        0 => {
+            let mut settings = draw_settings(dice);
+            if dice.one_in(3) {
+                settings.mounting = 0;
+            }
+            Call::Opening {
+                settings,
+                log_places: draw_log_places(dice),
+            }
+        }
+        1..=7 => Call::Link {
+            tick: draw_tick(dice, state),
+            a: draw_cell(dice, cells),
+            b: draw_cell(dice, cells),
+            log_places: draw_log_places(dice),
+        },
+        8..=11 => Call::Clock {
+            tick: draw_tick(dice, state),
+            log_places: draw_log_places(dice),
+        },
+        12..=17 => Call::Joined {
+            first: draw_cell(dice, cells),
+            second: draw_cell(dice, cells),
+        },
+        _ => Call::Chain {
+            first: draw_cell(dice, cells),
+            second: draw_cell(dice, cells),
+            log_places: draw_log_places(dice),
+            chain_places: if dice.one_in(SPOILT) {
+                CHAIN_PLACES - 1
+            } else {
+                CHAIN_PLACES + dice.below(3) as usize
+            },
+        },
+    }
+}
+
+fn draw_cell(dice: &mut Dice, cells: &[u32]) -> u32 {
+    if dice.one_in(SPOILT) {
+        dice.pick(&[1024, 65_535])
+    } else if dice.one_in(10) {
+        dice.below(1024) as u32
+    } else {
+        dice.pick(cells)
+    }
+}
+
+fn draw_log_places(dice: &mut Dice) -> usize {
+    if dice.one_in(SPOILT) {
+        dice.pick(&[0, LOG_PLACES - 1])
+    } else {
+        dice.between(LOG_PLACES as u64, MOST_LOG_PLACES as u64) as usize
+    }
+}
+
+/// The book's time, or a later tick of the slide, the chunk, the next chunk or
+/// one after it; sometimes an earlier one.
+fn draw_tick(dice: &mut Dice, state: &State) -> u32 {
+    let clock = &state.book.clock;
+    let (n, b) = (u64::from(clock.n), u64::from(clock.b));
+    let later = match dice.below(10) {
+        0 => return clock.time.saturating_sub(dice.between(1, 3) as u32),
+        1..=3 => 0,
+        4 => dice.below(b + 1),
+        5 | 6 => b * dice.below(n + 1),
+        7 | 8 => b * n,
+        _ => b * n * dice.between(1, 3),
+    };
+    let tick = u64::from(clock.time) + later;
+    u32::try_from(tick).unwrap_or(clock.time)
+}

@@ -1,0 +1,136 @@
+//! The fields of a book drawn from their ranges, and a log for it. They need not
+//! agree with one another.
+
+use oracle::{Settings, CELLS};
+use streams::{Dice, MOST_LOG_PLACES};
+
+/// Trees over some of the cells: one walk has so many steps, where there are
+/// cells enough, and none has more. All other cells are roots.
+pub fn trees(dice: &mut Dice, cells: &[u32], steps: usize) -> [u16; 1024] {
+    let mut order = cells.to_vec();
+    dice.shuffle(&mut order);
+    let mut parents = own_parents();
+    let mut taken = vec![0; order.len()];
+    for place in 1..order.len() {
+        let of_the_walk = place <= steps;
+        let under = if of_the_walk {
+            place - 1
+        } else {
+            dice.below(place as u64) as usize
+        };
+        if of_the_walk || (taken[under] < steps && !dice.one_in(3)) {
+            parents[order[place] as usize] = order[under] as u16;
+            taken[place] = taken[under] + 1;
+        }
+    }
+    parents
+}
+
+fn own_parents() -> [u16; 1024] {
+    let mut parents = [0; 1024];
+    for (cell, parent) in parents.iter_mut().enumerate() {
+        *parent = cell as u16;
+    }
+    parents
+}
+
+/// Sizes that add up, or double, or are any. For parents without a circle.
+pub fn draw_sizes(dice: &mut Dice, parents: &[u16; 1024]) -> [u16; 1024] {
+    match dice.below(5) {
+        0 => true_sizes(parents),
+        1 => doubling_sizes(parents),
+        2 => [dice.pick(&[1, 600, 1024]); 1024],
+        _ => [0; 1024].map(|_| any_size(dice)),
+    }
+}
+
+/// How many cells each cell's tree has, itself included.
+fn true_sizes(parents: &[u16; 1024]) -> [u16; 1024] {
+    let mut sizes = [1; 1024];
+    for cell in 0..1024 {
+        let mut at = cell;
+        while usize::from(parents[at]) != at {
+            at = usize::from(parents[at]);
+            sizes[at] += 1;
+        }
+    }
+    sizes
+}
+
+/// Sizes that double with each parent step, up to 1,024 at the roots. Where a walk
+/// is longer than 10, its first steps go from size 1 to size 1.
+pub fn doubling_sizes(parents: &[u16; 1024]) -> [u16; 1024] {
+    let mut sizes = [1024; 1024];
+    for (cell, size) in sizes.iter_mut().enumerate() {
+        let mut at = cell;
+        while usize::from(parents[at]) != at && *size > 1 {
+            at = usize::from(parents[at]);
+            *size /= 2;
+        }
+    }
+    sizes
+}
+
+pub fn draw_labels(dice: &mut Dice) -> [u8; 1024] {
+    let most = dice.between(0, 15);
+    [0; 1024].map(|_| dice.between(0, most) as u8)
+}
+
+/// A few links in each place, or any number of them.
+pub fn draw_counts(dice: &mut Dice) -> [u16; 32] {
+    let few = dice.one_in(2);
+    [0; 32].map(|_| {
+        if few {
+            dice.below(4) as u16
+        } else {
+            any_count(dice)
+        }
+    })
+}
+
+/// Entries that are such cells or, here and there, no cell at all.
+pub fn draw_log(dice: &mut Dice, cells: &[u32]) -> Vec<u16> {
+    let no_cells = dice.pick(&[3, 10, 1_000_000]);
+    let mut entry = || {
+        if dice.one_in(no_cells) {
+            dice.pick(&[1024, 1025, 2047, 65_535])
+        } else {
+            dice.pick(cells) as u16
+        }
+    };
+    (0..MOST_LOG_PLACES).map(|_| entry()).collect()
+}
+
+/// A time in the first few chunks, near the last tick, or any.
+pub fn draw_time(dice: &mut Dice, settings: Settings) -> u32 {
+    let left = u64::from(u32::MAX - settings.t0);
+    let chunks = 4 * u64::from(settings.n) * u64::from(settings.b);
+    let later = match dice.below(8) {
+        0 => left - dice.below(chunks).min(left),
+        1 => dice.below(left + 1),
+        _ => dice.below(chunks).min(left),
+    };
+    settings.t0 + later as u32
+}
+
+/// A few cells, so that links and steps meet, or all.
+pub fn draw_cells(dice: &mut Dice) -> Vec<u32> {
+    let mut cells = dice.shuffled_cells();
+    if !dice.one_in(6) {
+        cells.truncate(dice.between(4, 40) as usize);
+    }
+    cells
+}
+
+pub fn any_cell(dice: &mut Dice) -> u32 {
+    dice.below(u64::from(CELLS)) as u32
+}
+
+pub fn any_size(dice: &mut Dice) -> u16 {
+    dice.between(1, 1024) as u16
+}
+
+pub fn any_count(dice: &mut Dice) -> u16 {
+    let any = dice.between(0, 256) as u16;
+    dice.pick(&[0, 1, 2, 255, 256, any])
+}

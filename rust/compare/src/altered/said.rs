@@ -1,0 +1,293 @@
+//! What docs/BOOK.md says that each call gives, for any book and log, written
+//! again in Rust. What the document says of links and forests is the oracle's:
+//! here it is put to whatever the fields and the log hold.
+
+use super::order::disorder;
+use crate::fields::{book_of, labels_of, log_place, narrow, settings_of, spot, HALF};
+use crate::state::State;
+use kerb::Book;
+use oracle::{
+    in_lorrys_numbers, is_cell, number, Chain, Forest, History, Joined, Link, Linked, Refusal,
+    Settings, LINKS_PER_SLIDE, LOG_PLACES,
+};
+use streams::{lent_places, Answer, Call};
+
+/// What a call to a book gives; the state becomes what it leaves.
+pub fn ask(state: &mut State, call: &Call) -> Answer {
+    match call {
+        Call::Opening {
+            settings,
+            log_places,
+        } => Answer::Number {
+            number: number(&opening(state, *settings, *log_places)),
+        },
+        Call::Link {
+            tick,
+            a,
+            b,
+            log_places,
+        } => Answer::Number {
+            number: number(&link(state, *tick, [*a, *b], *log_places)),
+        },
+        Call::Clock { tick, log_places } => Answer::Number {
+            number: number(&clock(state, *tick, *log_places)),
+        },
+        Call::Joined { first, second } => {
+            let answer = joined(state, [*first, *second]);
+            let fields = answer.unwrap_or_default();
+            Answer::Joined {
+                number: number(&answer),
+                joined: fields.joined,
+                steps: fields.steps,
+            }
+        }
+        Call::Chain {
+            first,
+            second,
+            log_places,
+            chain_places,
+        } => {
+            let mut lent = lent_places(*chain_places);
+            let answer = chain(state, [*first, *second], *log_places, &mut lent);
+            let fields = answer.unwrap_or_default();
+            Answer::Chain {
+                number: number(&answer),
+                l: fields.l,
+                hold: fields.hold,
+                cells: fields.cells,
+                lent,
+            }
+        }
+        Call::Read { .. } | Call::Write { .. } | Call::List { .. } => {
+            unreachable!("a call without a book")
+        }
+    }
+}
+
+// The calls, each with its checks in the order of the table.
+
+/// Does not look at the book, and opens any.
+fn opening(state: &mut State, settings: Settings, log_places: usize) -> Result<(), Refusal> {
+    settings.check()?;
+    log_is_long(log_places)?;
+    state.book = empty_book(settings, settings.t0);
+    state.log[..LOG_PLACES].fill(0);
+    Ok(())
+}
+
+fn link(state: &mut State, tick: u32, cells: [u32; 2], log_places: usize) -> Result<(), Refusal> {
+    in_order(&state.book)?;
+    log_is_long(log_places)?;
+    are_cells(cells)?;
+    not_before_time(&state.book, tick)?;
+    refuse_if(
+        held(&state.book, tick) >= LINKS_PER_SLIDE,
+        Refusal::SlideFull,
+    )?;
+    move_time(state, tick);
+    let mounting = u32::from(state.book.mounting);
+    store(state, cells.map(|cell| in_lorrys_numbers(cell, mounting)));
+    Ok(())
+}
+
+fn clock(state: &mut State, tick: u32, log_places: usize) -> Result<(), Refusal> {
+    in_order(&state.book)?;
+    log_is_long(log_places)?;
+    not_before_time(&state.book, tick)?;
+    move_time(state, tick);
+    Ok(())
+}
+
+/// By the parent steps of the two forests, the backward ones at the cut.
+fn joined(state: &State, cells: [u32; 2]) -> Result<Joined, Refusal> {
+    in_order(&state.book)?;
+    are_cells(cells)?;
+    let (_, open_place) = chunk_and_place(&state.book, state.book.clock.time);
+    let cut = open_place + 1;
+    let (backward, forward) = (backward_forest(&state.book), forward_forest(&state.book));
+    let walks = cells.map(|cell| backward.walk_at_cut(cell, cut).steps + forward.walk(cell).steps);
+    let mut steps = steps_of(&forward, 0);
+    steps.extend(steps_of(&backward, cut));
+    Ok(Joined {
+        joined: Linked::by(&steps).group_of(cells[0]).contains(cells[1]),
+        steps: walks.iter().sum(),
+    })
+}
+
+/// By the log alone.
+fn chain(
+    state: &State,
+    cells: [u32; 2],
+    log_places: usize,
+    lent: &mut [u16],
+) -> Result<Chain, Refusal> {
+    in_order(&state.book)?;
+    let book = oracle::Book {
+        history: Some(logged_window(state)),
+    };
+    book.chain(cells[0], cells[1], log_places, lent)
+}
+
+// The checks.
+
+fn refuse_if(condition: bool, refusal: Refusal) -> Result<(), Refusal> {
+    if condition {
+        Err(refusal)
+    } else {
+        Ok(())
+    }
+}
+
+fn in_order(book: &Book) -> Result<(), Refusal> {
+    refuse_if(disorder(book).is_some(), Refusal::NeverOpened)
+}
+
+fn log_is_long(places: usize) -> Result<(), Refusal> {
+    refuse_if(places < LOG_PLACES, Refusal::Buffer)
+}
+
+fn are_cells(cells: [u32; 2]) -> Result<(), Refusal> {
+    refuse_if(!cells.iter().all(|&cell| is_cell(cell)), Refusal::Cell)
+}
+
+fn not_before_time(book: &Book, tick: u32) -> Result<(), Refusal> {
+    refuse_if(tick < book.clock.time, Refusal::Tick)
+}
+
+// Slides, chunks and places, by the fields. The book is in order.
+
+/// The chunk and the place of a tick's slide.
+pub fn chunk_and_place(book: &Book, tick: u32) -> (u64, u64) {
+    let slide = settings_of(book).slide_of(tick);
+    let n = u64::from(book.clock.n);
+    (slide / n, slide % n)
+}
+
+/// How many links the slide of a tick holds already: what is counted at its
+/// place, where it is of the open chunk; else none.
+pub fn held(book: &Book, tick: u32) -> usize {
+    let (open_chunk, _) = chunk_and_place(book, book.clock.time);
+    let (chunk, place) = chunk_and_place(book, tick);
+    if chunk == open_chunk {
+        usize::from(book.counts[spot(chunk, place)])
+    } else {
+        0
+    }
+}
+
+// What changes the state.
+
+/// A book with both forests fresh and all counts 0.
+fn empty_book(settings: Settings, time: u32) -> Book {
+    book_of(&History {
+        settings,
+        time,
+        links: Vec::new(),
+    })
+}
+
+/// Within the chunk nothing changes but the time.
+fn move_time(state: &mut State, tick: u32) {
+    let (before, _) = chunk_and_place(&state.book, state.book.clock.time);
+    let (after, _) = chunk_and_place(&state.book, tick);
+    if after == before + 1 {
+        turn(state, before);
+    } else if after > before {
+        state.book = empty_book(settings_of(&state.book), tick);
+    }
+    state.book.clock.time = tick;
+}
+
+/// Into the next chunk: the backward forest is built from the log, the forward
+/// forest is fresh, and the counts of the new chunk's half are 0.
+fn turn(state: &mut State, ending: u64) {
+    let mut backward = Forest::start();
+    for place in (1..u64::from(state.book.clock.n)).rev() {
+        for (a, b) in logged_links(state, spot(ending, place)).into_iter().rev() {
+            backward.unite(a, b, place);
+        }
+    }
+    let forward = Forest::start();
+    let book = &mut state.book;
+    book.backward_parent = narrow(&backward.parent);
+    book.backward_size = narrow(&backward.size);
+    book.backward_label = labels_of(&backward);
+    book.forward_parent = narrow(&forward.parent);
+    book.forward_size = narrow(&forward.size);
+    let new_half = spot(ending + 1, 0);
+    book.counts[new_half..new_half + HALF].fill(0);
+}
+
+/// A link of two of the lorry's cells, in the open slide.
+fn store(state: &mut State, cells: [u32; 2]) {
+    let (chunk, place) = chunk_and_place(&state.book, state.book.clock.time);
+    let spot = spot(chunk, place);
+    let at = log_place(spot, usize::from(state.book.counts[spot]));
+    state.log[at] = cells[0] as u16;
+    state.log[at + 1] = cells[1] as u16;
+    state.book.counts[spot] += 1;
+
+    let mut forward = forward_forest(&state.book);
+    forward.unite(cells[0], cells[1], place);
+    state.book.forward_parent = narrow(&forward.parent);
+    state.book.forward_size = narrow(&forward.size);
+}
+
+// What the fields and the log hold.
+
+/// The links of a spot as far as its count reaches, pairs with an entry that is
+/// no cell left out.
+fn logged_links(state: &State, spot: usize) -> Vec<(u32, u32)> {
+    let count = usize::from(state.book.counts[spot]);
+    let pairs = state.log[log_place(spot, 0)..log_place(spot, count)].chunks(2);
+    pairs
+        .map(|pair| (u32::from(pair[0]), u32::from(pair[1])))
+        .filter(|&(a, b)| is_cell(a) && is_cell(b))
+        .collect()
+}
+
+/// The window's slides, as far as they exist, with the links that the log holds.
+pub fn logged_window(state: &State) -> History {
+    let settings = settings_of(&state.book);
+    let mut history = History {
+        settings,
+        time: state.book.clock.time,
+        links: Vec::new(),
+    };
+    let n = u64::from(settings.n);
+    for slide in history.oldest_slide()..=history.open_slide() {
+        for (a, b) in logged_links(state, spot(slide / n, slide % n)) {
+            history.links.push(Link { slide, a, b });
+        }
+    }
+    history
+}
+
+fn forward_forest(book: &Book) -> Forest {
+    Forest {
+        parent: book.forward_parent.map(u32::from),
+        size: book.forward_size.map(u32::from),
+        label: [0; 1024],
+    }
+}
+
+fn backward_forest(book: &Book) -> Forest {
+    Forest {
+        parent: book.backward_parent.map(u32::from),
+        size: book.backward_size.map(u32::from),
+        label: book.backward_label.map(u64::from),
+    }
+}
+
+/// A forest's parent steps at a cut, as links.
+fn steps_of(forest: &Forest, cut: u64) -> Vec<Link> {
+    let cells = forest.parent.iter().zip(&forest.label).enumerate();
+    cells
+        .filter(|&(cell, (&parent, &label))| parent != cell as u32 && label >= cut)
+        .map(|(cell, (&parent, _))| Link {
+            slide: 0,
+            a: cell as u32,
+            b: parent,
+        })
+        .collect()
+}

@@ -1,0 +1,170 @@
+//! What came of the calls to altered books, by what docs/BOOK.md says.
+
+use super::books::KINDS;
+use super::order::{disorder, REASONS};
+use super::said;
+use crate::fields::spot;
+use crate::state::State;
+use crate::tally::{number, span, Spans, Tally, NUMBERS};
+use oracle::{CHAIN_PLACES, LOG_PLACES};
+use streams::{Answer, Call};
+
+const STEPS: &Spans = &[
+    (0, "0"),
+    (1, "1 to 9"),
+    (10, "10 to 19"),
+    (20, "20 and more"),
+];
+
+/// The rows that [`count`] and [`count_book`] fill.
+pub fn tally() -> Tally {
+    Tally::of(&[
+        ("book", &KINDS),
+        ("at first", &["in order", "not in order"]),
+        ("number 1 by", &REASONS),
+        ("opening, number", &["0", "2", "6"]),
+        ("link, number", &["0", "1", "3", "4", "5", "6"]),
+        ("clock, number", &["0", "1", "4", "6"]),
+        ("joined, number", &["0", "1", "3"]),
+        ("chain, number", &["0", "1", "3", "6", "7"]),
+        (
+            "time moved",
+            &["within the chunk", "to the next", "over chunks"],
+        ),
+        (
+            "link's slide, before",
+            &[
+                "open, empty",
+                "open",
+                "later, empty",
+                "later",
+                "of a later chunk",
+            ],
+        ),
+        (
+            "after a link",
+            &["still in order", "a size over 1,024", "a walk over 10"],
+        ),
+        ("two cells joined", &["yes", "no"]),
+        ("steps", &["0", "1 to 9", "10 to 19", "20 and more"]),
+        ("forests and log", &["agree", "disagree"]),
+        ("chain, in chunk", &["0", "a later one"]),
+        ("chain, by", &["links alone", "pairs that are no links"]),
+        ("hold of two cells", &NUMBERS[..16]),
+        ("hold of a cell with itself", &NUMBERS[1..]),
+    ])
+}
+
+/// Counts an altered book.
+pub fn count_book(tally: &mut Tally, kind: &str, state: &State) {
+    tally.count("book", kind);
+    let in_order = disorder(&state.book).is_none();
+    let order = if in_order { "in order" } else { "not in order" };
+    tally.count("at first", order);
+}
+
+/// Counts a call: the states are those before and after it.
+pub fn count(tally: &mut Tally, before: &State, after: &State, call: &Call, answer: &Answer) {
+    let row = match call {
+        Call::Opening { .. } => "opening, number",
+        Call::Link { .. } => "link, number",
+        Call::Clock { .. } => "clock, number",
+        Call::Joined { .. } => "joined, number",
+        _ => "chain, number",
+    };
+    tally.count(row, number(answer.number()));
+    match answer.number() {
+        0 => count_done(tally, before, after, call, answer),
+        1 => tally.count("number 1 by", disorder(&before.book).expect("a reason")),
+        _ => {}
+    }
+}
+
+fn count_done(tally: &mut Tally, before: &State, after: &State, call: &Call, answer: &Answer) {
+    match (call, answer) {
+        (Call::Link { tick, .. }, _) => {
+            count_time(tally, before, *tick);
+            tally.count("link's slide, before", slide_before(before, *tick));
+            let order = match disorder(&after.book) {
+                None => "still in order",
+                Some("forward_size") => "a size over 1,024",
+                Some(_) => "a walk over 10",
+            };
+            tally.count("after a link", order);
+        }
+        (Call::Clock { tick, .. }, _) => count_time(tally, before, *tick),
+        (Call::Joined { first, second }, Answer::Joined { joined, steps, .. })
+            if first != second =>
+        {
+            tally.count("steps", span(STEPS, u64::from(*steps)));
+            tally.count("two cells joined", if *joined { "yes" } else { "no" });
+            let chained = is_chained(after, *first, *second);
+            let agree = chained == *joined;
+            tally.count("forests and log", if agree { "agree" } else { "disagree" });
+        }
+        (Call::Chain { first, second, .. }, Answer::Chain { hold, .. }) => {
+            let row = if first == second {
+                "hold of a cell with itself"
+            } else {
+                "hold of two cells"
+            };
+            tally.count(row, number(*hold));
+            count_window(tally, after);
+        }
+        _ => {}
+    }
+}
+
+fn count_time(tally: &mut Tally, before: &State, tick: u32) {
+    let (open, _) = said::chunk_and_place(&before.book, before.book.clock.time);
+    let (chunk, _) = said::chunk_and_place(&before.book, tick);
+    let moved = match chunk - open {
+        0 => "within the chunk",
+        1 => "to the next",
+        _ => "over chunks",
+    };
+    tally.count("time moved", moved);
+}
+
+fn slide_before(before: &State, tick: u32) -> &'static str {
+    let open = said::chunk_and_place(&before.book, before.book.clock.time);
+    let link = said::chunk_and_place(&before.book, tick);
+    match (
+        link.0 == open.0,
+        link.1 == open.1,
+        said::held(&before.book, tick),
+    ) {
+        (false, _, _) => "of a later chunk",
+        (true, true, 0) => "open, empty",
+        (true, true, _) => "open",
+        (true, false, 0) => "later, empty",
+        (true, false, _) => "later",
+    }
+}
+
+fn count_window(tally: &mut Tally, state: &State) {
+    let (chunk, _) = said::chunk_and_place(&state.book, state.book.clock.time);
+    let chunk = if chunk == 0 { "0" } else { "a later one" };
+    tally.count("chain, in chunk", chunk);
+    let window = said::logged_window(state);
+    let spots = (window.oldest_slide()..=window.open_slide())
+        .map(|slide| spot(slide / window.n(), slide % window.n()));
+    let counted: usize = spots.map(|spot| usize::from(state.book.counts[spot])).sum();
+    let pairs = if window.links.len() == counted {
+        "links alone"
+    } else {
+        "pairs that are no links"
+    };
+    tally.count("chain, by", pairs);
+}
+
+/// Whether the log chains two cells, whatever the forests say.
+fn is_chained(state: &State, first: u32, second: u32) -> bool {
+    let chain = Call::Chain {
+        first,
+        second,
+        log_places: LOG_PLACES,
+        chain_places: CHAIN_PLACES,
+    };
+    said::ask(&mut state.clone(), &chain).number() == 0
+}

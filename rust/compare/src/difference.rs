@@ -1,0 +1,149 @@
+//! A difference between what a call gave and what it has to give, in words that
+//! an engineer can start from.
+
+use crate::state::State;
+use std::fmt;
+use streams::{lent_bytes, lent_places, Answer, Call};
+
+/// What was wrong with a call.
+#[derive(Clone, Debug, PartialEq, Eq)]
+pub struct Difference(String);
+
+impl fmt::Display for Difference {
+    fn fmt(&self, f: &mut fmt::Formatter) -> fmt::Result {
+        f.write_str(&self.0)
+    }
+}
+
+impl Difference {
+    /// The two answers, if they differ.
+    pub fn of_answers(call: &Call, expected: &Answer, given: &Answer) -> Result<(), Difference> {
+        if expected == given {
+            return Ok(());
+        }
+        Err(Difference(format!(
+            "{}\n  has to give {}\n  and gave    {}",
+            shown_call(call),
+            shown_answer(expected),
+            shown_answer(given)
+        )))
+    }
+
+    /// The first place in which the two states differ, if they do.
+    pub fn of_states(call: &Call, expected: &State, given: &State) -> Result<(), Difference> {
+        if expected == given {
+            return Ok(());
+        }
+        for ((name, expected), (_, given)) in parts(expected).iter().zip(&parts(given)) {
+            for (place, (expected, given)) in expected.iter().zip(given).enumerate() {
+                if expected != given {
+                    return Err(Difference(format!(
+                        "{}\n  has to leave {name}[{place}] {expected}\n  and left     {given}",
+                        shown_call(call),
+                    )));
+                }
+            }
+        }
+        unreachable!("the parts are all that a state has")
+    }
+}
+
+/// All numbers of a state, field by field.
+fn parts(state: &State) -> Vec<(&'static str, Vec<u32>)> {
+    let book = &state.book;
+    let wide = |numbers: &[u16]| numbers.iter().map(|&number| u32::from(number)).collect();
+    let clock = &book.clock;
+    let labels = book.backward_label.iter();
+    vec![
+        (
+            "clock (t0, b, time, n)",
+            vec![clock.t0, clock.b, clock.time, u32::from(clock.n)],
+        ),
+        ("mounting", vec![u32::from(book.mounting)]),
+        ("counts", wide(&book.counts)),
+        ("forward_parent", wide(&book.forward_parent)),
+        ("forward_size", wide(&book.forward_size)),
+        ("backward_parent", wide(&book.backward_parent)),
+        ("backward_size", wide(&book.backward_size)),
+        (
+            "backward_label",
+            labels.map(|&label| u32::from(label)).collect(),
+        ),
+        ("log", wide(&state.log)),
+    ]
+}
+
+/// A call, without the bytes of its file.
+fn shown_call(call: &Call) -> String {
+    match call {
+        Call::Read { file } => format!("Read a file of {} bytes", file.len()),
+        Call::Write {
+            settings,
+            records,
+            output_bytes,
+        } => format!(
+            "Write {:?}, {} bytes of records, output of {} bytes",
+            settings,
+            records.len(),
+            output_bytes
+        ),
+        Call::List { file, output_bytes } => format!(
+            "List a file of {} bytes, output of {} bytes",
+            file.len(),
+            output_bytes
+        ),
+        call => format!("{:?}", call),
+    }
+}
+
+/// An answer; of a lent buffer what was written to it.
+fn shown_answer(answer: &Answer) -> String {
+    match answer {
+        Answer::Chain {
+            number,
+            l,
+            hold,
+            cells,
+            lent,
+        } => format!(
+            "number {}, L {}, hold {}, {} cells; {}",
+            number,
+            l,
+            hold,
+            cells,
+            written(lent, &lent_places(lent.len()))
+        ),
+        Answer::Write { number, output } => format!(
+            "number {}; {}",
+            number,
+            written(output, &lent_bytes(output.len()))
+        ),
+        Answer::List {
+            number,
+            length,
+            output,
+        } => format!(
+            "number {}, length {}, text {:?}; {}",
+            number,
+            length,
+            String::from_utf8_lossy(output.get(..*length).unwrap_or_default()),
+            written(output, &lent_bytes(output.len()))
+        ),
+        answer => format!("{:?}", answer),
+    }
+}
+
+/// Which places of a buffer hold something else than when it was lent, and what.
+fn written<T: PartialEq + fmt::Display>(now: &[T], lent: &[T]) -> String {
+    let changed = now.iter().zip(lent).enumerate();
+    let changed: Vec<String> = changed
+        .filter(|(_, (now, lent))| now != lent)
+        .map(|(place, (now, _))| format!("{place}: {now}"))
+        .collect();
+    format!(
+        "of {} places {} written {}",
+        now.len(),
+        changed.len(),
+        changed.join(", ")
+    )
+}

@@ -1,0 +1,199 @@
+//! "Order of checks": each call with every set of the faults that it can have,
+//! and it gives the number of the first. [`Lockstep`] sees to the rest of a
+//! refusal: the other fields are 0, the book, the log and lent buffers as before.
+//!
+//! [`Lockstep`]: compare::Lockstep
+
+mod common;
+use common::*;
+use compare::Lockstep;
+use oracle::{CHAIN_PLACES, LOG_PLACES};
+use streams::files::file_of;
+use streams::{Call, LISTING_BYTES};
+
+/// Every choice of yes or no for so many faults.
+fn all_sets<const N: usize>() -> Vec<[bool; N]> {
+    let set = |bits: u32| {
+        let mut faults = [false; N];
+        for (place, fault) in faults.iter_mut().enumerate() {
+            *fault = bits >> place & 1 == 1;
+        }
+        faults
+    };
+    (0..1 << N).map(set).collect()
+}
+
+/// The number of the first fault, in the order of the checks.
+fn first<const N: usize>(order: [u32; N], faults: [bool; N]) -> u32 {
+    let mut both = order.iter().zip(faults);
+    both.find(|of| of.1).map_or(0, |of| *of.0)
+}
+
+/// A book of slides of 10 ticks from tick 5 on, time 50, slide 4 full; or one
+/// that was never opened.
+fn book(never_opened: bool) -> Lockstep {
+    if never_opened {
+        return Lockstep::new();
+    }
+    let mut books = opened(settings(3, 10, 1, 5));
+    for _ in 0..256 {
+        assert_eq!(link(&mut books, 45, 1, 2), 0);
+    }
+    assert_eq!(clock(&mut books, 50), 0);
+    books
+}
+
+fn log_places(short: bool) -> usize {
+    LOG_PLACES - usize::from(short)
+}
+
+#[test]
+fn opening_2_6() {
+    for faults in all_sets() {
+        let [bad_n, short] = faults;
+        for never_opened in [true, false] {
+            let call = Call::Opening {
+                settings: settings(if bad_n { 17 } else { 16 }, 10, 1, 5),
+                log_places: log_places(short),
+            };
+            let given = number(&mut book(never_opened), call);
+            assert_eq!(given, first([2, 6], faults));
+        }
+    }
+}
+
+#[test]
+fn link_1_6_3_4_5() {
+    for faults in all_sets() {
+        let [never_opened, short, bad_cell, old_tick, full] = faults;
+        let call = Call::Link {
+            tick: match (old_tick, full) {
+                (false, false) => 55,
+                (false, true) => 54,
+                (true, false) => 44,
+                (true, true) => 49,
+            },
+            a: 7,
+            b: if bad_cell { 1024 } else { 1023 },
+            log_places: log_places(short),
+        };
+        let given = number(&mut book(never_opened), call);
+        assert_eq!(given, first([1, 6, 3, 4, 5], faults));
+    }
+}
+
+#[test]
+fn clock_1_6_4() {
+    for faults in all_sets() {
+        let [never_opened, short, old_tick] = faults;
+        let call = Call::Clock {
+            tick: if old_tick { 49 } else { 50 },
+            log_places: log_places(short),
+        };
+        let given = number(&mut book(never_opened), call);
+        assert_eq!(given, first([1, 6, 4], faults));
+    }
+}
+
+#[test]
+fn joined_1_3() {
+    for faults in all_sets() {
+        let [never_opened, bad_cell] = faults;
+        let cell = if bad_cell { 1024 } else { 1023 };
+        let given = joined(&mut book(never_opened), cell, 7).0;
+        assert_eq!(given, first([1, 3], faults));
+    }
+}
+
+/// Number 6 by the log and by the chain buffer. 8 cannot be earned.
+#[test]
+fn chain_1_6_3_7() {
+    for faults in all_sets() {
+        let [never_opened, short_log, short_chain, bad_cell, no_trail] = faults;
+        let call = Call::Chain {
+            first: if no_trail { 9 } else { 1 },
+            second: if bad_cell { 1024 } else { 2 },
+            log_places: log_places(short_log),
+            chain_places: CHAIN_PLACES - usize::from(short_chain),
+        };
+        let given = number(&mut book(never_opened), call);
+        assert_eq!(given, first([1, 6, 6, 3, 7], faults));
+    }
+}
+
+#[test]
+fn logs_and_chain_buffers_of_every_kind_of_length() {
+    for (places, expected) in [(0, 6), (1, 6), (16_383, 6), (16_384, 0), (16_385, 0)] {
+        let call = Call::Chain {
+            first: 1,
+            second: 2,
+            log_places: places,
+            chain_places: CHAIN_PLACES,
+        };
+        assert_eq!(number(&mut book(false), call), expected);
+    }
+    for (places, expected) in [(0, 6), (1, 6), (1_023, 6), (1_024, 0), (1_025, 0)] {
+        let call = Call::Chain {
+            first: 1,
+            second: 2,
+            log_places: LOG_PLACES,
+            chain_places: places,
+        };
+        assert_eq!(number(&mut book(false), call), expected);
+    }
+}
+
+#[test]
+fn reader_9_10_11_12_2() {
+    let good = file_of(settings(3, 10, 1, 5), &records(&[(5, 1, 2), (6, 3, 4)]));
+    for faults in all_sets() {
+        let [length, letters, offset, pad, n] = faults;
+        let mut file = good.clone();
+        let end = file.len();
+        file[end - 1] ^= u8::from(letters);
+        file[end - 8] ^= u8::from(offset);
+        file[end - 13] ^= u8::from(pad);
+        if n {
+            file[end - 16] = 17;
+        }
+        if length {
+            file.insert(0, 0);
+        }
+        let given = number(&mut Lockstep::new(), Call::Read { file });
+        assert_eq!(given, first([9, 10, 11, 12, 2], faults));
+    }
+}
+
+#[test]
+fn writer_2_9_6() {
+    for faults in all_sets() {
+        let [mounting, length, short] = faults;
+        let call = Call::Write {
+            settings: settings(3, 10, if mounting { 0 } else { 1 }, 5),
+            records: vec![1; if length { 15 } else { 16 }],
+            output_bytes: if short { 10 } else { 45 },
+        };
+        let given = number(&mut Lockstep::new(), call);
+        assert_eq!(given, first([2, 9, 6], faults));
+    }
+}
+
+/// The listing's own number 6 comes before anything that its text could say.
+#[test]
+fn listing_6() {
+    for file in [vec![], file_of(settings(3, 10, 1, 0), &records(&LISTING))] {
+        for (output_bytes, short) in [
+            (0, true),
+            (LISTING_BYTES - 1, true),
+            (LISTING_BYTES, false),
+            (LISTING_BYTES + 1, false),
+        ] {
+            let call = Call::List {
+                file: file.clone(),
+                output_bytes,
+            };
+            let given = number(&mut Lockstep::new(), call);
+            assert_eq!(given == 6, short);
+        }
+    }
+}
