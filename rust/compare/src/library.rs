@@ -14,8 +14,7 @@ pub fn ask(state: &mut State, call: &Call) -> Answer {
             log_places,
         } => {
             let log = &mut state.log[..*log_places];
-            let answer = calls::opening(&state.book, log, narrow(*settings));
-            take(state, answer)
+            answered(calls::opening(&mut state.book, log, narrow(*settings)))
         }
         Call::Link {
             tick,
@@ -24,12 +23,12 @@ pub fn ask(state: &mut State, call: &Call) -> Answer {
             log_places,
         } => {
             let log = &mut state.log[..*log_places];
-            let answer = calls::link(&state.book, log, *tick, *a as u16, *b as u16);
-            take(state, answer)
+            let (one, other) = (*a as u16, *b as u16);
+            answered(calls::link(&mut state.book, log, *tick, one, other))
         }
         Call::Clock { tick, log_places } => {
-            let answer = calls::clock(&state.book, &state.log[..*log_places], *tick);
-            take(state, answer)
+            let log = &state.log[..*log_places];
+            answered(calls::clock(&mut state.book, log, *tick))
         }
         Call::Joined { first, second } => ask_joined(state, *first, *second),
         Call::Chain {
@@ -58,10 +57,9 @@ fn narrow(settings: Settings) -> calls::Settings {
     }
 }
 
-fn take(state: &mut State, answer: calls::Answer) -> Answer {
-    state.book = answer.book;
+fn answered(number: u8) -> Answer {
     Answer::Number {
-        number: u32::from(answer.number),
+        number: u32::from(number),
     }
 }
 
