@@ -1,0 +1,265 @@
+//! Baselines (a) and (b): the library's own method in plain Rust, over a book that is altered in place. `CHECKED` says whether
+//! number 1 is asked at every call (a) or not (b); all other checks are made in both.
+
+mod crossing;
+mod forest;
+mod trail;
+
+use crate::contender::{chain_refused, joined_refused, Contender};
+use forest::{every, Forest, Labelled, CELLS};
+use kerb::calls::{ChainAnswer, JoinedAnswer};
+use kerb::{Clock, Settings, CHAIN_PLACES, LOG_PLACES};
+use trail::WindowLinks;
+
+/// Places of a chunk's half in the counts and in the log, and links of a place.
+const PLACES: usize = 16;
+const LINKS: u16 = 256;
+
+pub struct SameMethod<const CHECKED: bool> {
+    clock: Clock,
+    mounting: u8,
+    /// Links stored, at half * 16 + place; half = chunk mod 2.
+    counts: [u16; 2 * PLACES],
+    /// The links of the open chunk.
+    forward: Forest,
+    /// The links of the chunk before, each with its place as label.
+    backward: Labelled,
+    log: Vec<u16>,
+}
+
+impl<const CHECKED: bool> SameMethod<CHECKED> {
+    fn slide(&self, tick: u32) -> u64 {
+        u64::from((tick - self.clock.t0) / self.clock.b)
+    }
+
+    fn open_slide(&self) -> u64 {
+        self.slide(self.clock.time)
+    }
+
+    fn chunk(&self, slide: u64) -> u64 {
+        slide / u64::from(self.clock.n)
+    }
+
+    fn place(&self, slide: u64) -> usize {
+        (slide % u64::from(self.clock.n)) as usize
+    }
+
+    /// Where the links of a slide are counted and logged.
+    fn spot(&self, slide: u64) -> usize {
+        (self.chunk(slide) % 2) as usize * PLACES + self.place(slide)
+    }
+
+    /// The log's pairs of a spot, in order of arrival.
+    fn pairs(&self, spot: usize) -> &[u16] {
+        let start = 2 * usize::from(LINKS) * spot;
+        &self.log[start..start + 2 * usize::from(self.counts[spot])]
+    }
+
+    /// Number 1: every field is in its range and no walk exceeds its steps.
+    fn in_order(&self) -> bool {
+        let clock = &self.clock;
+        (1..=16).contains(&clock.n)
+            && 1 <= clock.b
+            && clock.t0 <= clock.time
+            && (1..=2).contains(&self.mounting)
+            && every(&self.counts, |count| count <= LINKS)
+            && self.forward.is_sound()
+            && self.backward.forest.is_sound()
+            && every(&self.backward.label, |label| label < PLACES as u8)
+    }
+
+    /// The lorry's number of a unit's cell.
+    fn lorry_cell(&self, cell: u16) -> u16 {
+        if self.mounting == 2 {
+            cell ^ 63
+        } else {
+            cell
+        }
+    }
+
+    fn link_number(&self, tick: u32, one: u16, other: u16) -> u8 {
+        if CHECKED && !self.in_order() {
+            return 1;
+        }
+        if self.log.len() < LOG_PLACES {
+            return 6;
+        }
+        if CELLS as u16 <= one || CELLS as u16 <= other {
+            return 3;
+        }
+        if tick < self.clock.time {
+            return 4;
+        }
+        let slide = self.slide(tick);
+        let in_open_chunk = self.chunk(slide) == self.chunk(self.open_slide());
+        if in_open_chunk && LINKS <= self.counts[self.spot(slide)] {
+            return 5;
+        }
+        0
+    }
+
+    /// The step of time: within a chunk nothing else changes; into the next chunk the backward forest is built from the chunk
+    /// that ends; further, nothing is left.
+    fn move_to(&mut self, tick: u32) {
+        let before = self.chunk(self.open_slide());
+        let after = self.chunk(self.slide(tick));
+        self.clock.time = tick;
+        if after == before {
+            return;
+        }
+        self.forward = Forest::fresh();
+        self.backward = Labelled::fresh();
+        if after == before + 1 {
+            self.scan_chunk((before % 2) as usize);
+            let half = (after % 2) as usize;
+            self.counts[half * PLACES..][..PLACES].fill(0);
+        } else {
+            self.counts.fill(0);
+        }
+    }
+
+    /// Places n - 1 down to 1 into the backward forest, in each place the last arrival first.
+    fn scan_chunk(&mut self, half: usize) {
+        for place in (1..self.clock.n).rev() {
+            let spot = half * PLACES + usize::from(place);
+            let start = 2 * usize::from(LINKS) * spot;
+            let count = usize::from(self.counts[spot]);
+            for pair in self.log[start..start + 2 * count].chunks_exact(2).rev() {
+                if pair[0] < CELLS as u16 && pair[1] < CELLS as u16 {
+                    self.backward.unite(pair[0], pair[1], place);
+                }
+            }
+        }
+    }
+
+    /// Where neither forest alone decides: a cell that stands alone is spared the crossing.
+    fn across(&self, cut: u8, one: u16, other: u16) -> bool {
+        if self.alone(cut, one) || self.alone(cut, other) {
+            return one == other;
+        }
+        let backward = self.backward.roots_at(cut);
+        let forward = self.forward.roots();
+        crossing::joined_across(&backward, &forward, one, other)
+    }
+
+    /// Whether no parent step leaves or reaches the cell, in either forest.
+    fn alone(&self, cut: u8, asked: u16) -> bool {
+        let mut fine = true;
+        for cell in 0..CELLS as u16 {
+            let is_asked = cell == asked;
+            fine &= (self.backward.parent_at(cut, cell) == asked) == is_asked;
+            fine &= (self.forward.parent[usize::from(cell)] == asked) == is_asked;
+        }
+        fine
+    }
+
+    /// The window's links, newest slide first.
+    fn window_links(&self) -> WindowLinks {
+        let n = self.clock.n;
+        let open = self.open_slide();
+        let mut links = WindowLinks::new(n);
+        for age in 0..u64::from(n).min(open + 1) {
+            links.add(self.pairs(self.spot(open - age)), n - age as u8);
+        }
+        links
+    }
+}
+
+impl<const CHECKED: bool> Contender for SameMethod<CHECKED> {
+    const COUNTS_STEPS: bool = true;
+    const FINDS_CHAINS: bool = true;
+
+    fn opened(settings: Settings) -> Self {
+        SameMethod {
+            clock: Clock {
+                t0: settings.t0,
+                b: settings.b,
+                time: settings.t0,
+                n: settings.n,
+            },
+            mounting: settings.mounting,
+            counts: [0; 2 * PLACES],
+            forward: Forest::fresh(),
+            backward: Labelled::fresh(),
+            log: vec![0; LOG_PLACES],
+        }
+    }
+
+    fn link(&mut self, tick: u32, one: u16, other: u16) -> u8 {
+        let number = self.link_number(tick, one, other);
+        if number != 0 {
+            return number;
+        }
+        let one = self.lorry_cell(one);
+        let other = self.lorry_cell(other);
+        self.move_to(tick);
+        let spot = self.spot(self.open_slide());
+        let count = self.counts[spot];
+        let at = 2 * (usize::from(LINKS) * spot + usize::from(count));
+        self.log[at] = one;
+        self.log[at + 1] = other;
+        self.counts[spot] = count + 1;
+        self.forward.unite(one, other);
+        0
+    }
+
+    fn clock(&mut self, tick: u32) -> u8 {
+        if CHECKED && !self.in_order() {
+            return 1;
+        }
+        if self.log.len() < LOG_PLACES {
+            return 6;
+        }
+        if tick < self.clock.time {
+            return 4;
+        }
+        self.move_to(tick);
+        0
+    }
+
+    fn joined(&mut self, one: u16, other: u16) -> JoinedAnswer {
+        if CHECKED && !self.in_order() {
+            return joined_refused(1);
+        }
+        if CELLS as u16 <= one || CELLS as u16 <= other {
+            return joined_refused(3);
+        }
+        let cut = self.place(self.open_slide()) as u8 + 1;
+        let backward_one = self.backward.walk_at(cut, one);
+        let backward_other = self.backward.walk_at(cut, other);
+        let forward_one = self.forward.walk(one);
+        let forward_other = self.forward.walk(other);
+        let in_one_forest = backward_one.root == backward_other.root
+            || forward_one.root == forward_other.root;
+        JoinedAnswer {
+            number: 0,
+            yes: in_one_forest || self.across(cut, one, other),
+            steps: backward_one.steps
+                + backward_other.steps
+                + forward_one.steps
+                + forward_other.steps,
+        }
+    }
+
+    fn chain(&mut self, one: u16, other: u16, lent: &mut [u16]) -> ChainAnswer {
+        if CHECKED && !self.in_order() {
+            return chain_refused(1);
+        }
+        if self.log.len() < LOG_PLACES || lent.len() < CHAIN_PLACES {
+            return chain_refused(6);
+        }
+        if CELLS as u16 <= one || CELLS as u16 <= other {
+            return chain_refused(3);
+        }
+        let links = self.window_links();
+        match links.highest_label(one, other) {
+            None => chain_refused(7),
+            Some(label) => ChainAnswer {
+                newest: self.open_slide() + u64::from(label) - u64::from(self.clock.n),
+                cells: links.write_chain(label, one, other, lent),
+                hold: label - 1,
+                number: 0,
+            },
+        }
+    }
+}
