@@ -78,12 +78,20 @@ impl Forest {
             && (self.sizes_double() || self.walks_end())
     }
 
+    /// Sizes of parents are fetched a block at a time, and then compared several at a time.
     fn sizes_double(&self) -> bool {
+        const BLOCK: usize = 64;
         let mut fine = true;
-        for cell in 0..CELLS {
-            let parent = usize::from(self.parent[cell]) % CELLS;
-            let least = self.size[cell] << u16::from(parent != cell);
-            fine &= least <= self.size[parent];
+        let blocks = self.parent.chunks_exact(BLOCK).zip(self.size.chunks_exact(BLOCK));
+        for (block, (parent, size)) in blocks.enumerate() {
+            let mut above = [0; BLOCK];
+            for (above, &parent) in above.iter_mut().zip(parent) {
+                *above = self.size[usize::from(parent) % CELLS];
+            }
+            for i in 0..BLOCK {
+                let is_root = parent[i] == (block * BLOCK + i) as u16;
+                fine &= is_root | (2 * size[i] <= above[i]);
+            }
         }
         fine
     }
