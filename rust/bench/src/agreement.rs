@@ -1,7 +1,7 @@
 //! Before anything is timed, all give the library's answers on the workload, or the program stops: a benchmark against a wrong
 //! baseline would be worthless.
 
-use crate::contender::Contender;
+use crate::any_book::AnyBook;
 use crate::library::Library;
 use crate::workload::{Calls, Workload};
 use kerb::calls::{ChainAnswer, JoinedAnswer};
@@ -15,7 +15,7 @@ enum Answer {
     Chain(ChainAnswer, Vec<u16>),
 }
 
-pub fn check<C: Contender>(workload: &Workload, name: &str) {
+pub fn check<C: AnyBook>(workload: &Workload, name: &str) {
     let mut library = Library::opened(workload.settings);
     let mut book = C::opened(workload.settings);
     for (place, batch) in workload.batches.iter().enumerate() {
@@ -29,7 +29,7 @@ pub fn check<C: Contender>(workload: &Workload, name: &str) {
     }
 }
 
-fn answers<C: Contender>(book: &mut C, calls: &Calls, steps: bool, chains: bool) -> Vec<Answer> {
+fn answers<C: AnyBook>(book: &mut C, calls: &Calls, steps: bool, chains: bool) -> Vec<Answer> {
     match calls {
         Calls::Clock(tick) => vec![Answer::Number(book.clock(*tick))],
         Calls::Links(tick, pairs) => pairs

@@ -1,7 +1,7 @@
 //! Baseline (c): connected components of the window by union-find. `EACH_CHANGE` recomputes them for each change of the window;
 //! its better sibling adds links as they come and rebuilds once a slide. It counts no steps and finds no chain.
 
-use crate::contender::{chain_refused, joined_refused, Contender};
+use crate::any_book::{chain_refused, joined_refused, AnyBook};
 use crate::window::{are_cells, Window, CELLS};
 use kerb::calls::{ChainAnswer, JoinedAnswer};
 use kerb::Settings;
@@ -63,7 +63,7 @@ pub struct Components<const EACH_CHANGE: bool> {
     groups: Groups,
 }
 
-impl<const EACH_CHANGE: bool> Contender for Components<EACH_CHANGE> {
+impl<const EACH_CHANGE: bool> AnyBook for Components<EACH_CHANGE> {
     const COUNTS_STEPS: bool = false;
     const FINDS_CHAINS: bool = false;
 

@@ -1,7 +1,7 @@
 //! The proved library, through the safe wrapper over its static archive, as a panel program uses it: the book stays where it
 //! is, and the copies that the wrapper makes count as the library's.
 
-use crate::contender::{chain_refused, joined_refused, Contender};
+use crate::any_book::{chain_refused, joined_refused, AnyBook};
 use kerb::calls::{ChainAnswer, JoinedAnswer};
 use kerb::{Book, Refusal, Settings, LOG_PLACES};
 
@@ -14,7 +14,7 @@ fn number(done: Result<(), Refusal>) -> u8 {
     done.map_or_else(Refusal::number, |()| 0)
 }
 
-impl Contender for Library {
+impl AnyBook for Library {
     const COUNTS_STEPS: bool = true;
     const FINDS_CHAINS: bool = true;
 

@@ -1,59 +1,78 @@
-//! The benchmark: the library against baselines, in one run.
+//! The benchmark: the library against baselines, everyone in turns in one run. It is a report and no test: nothing fails by time.
+//! The head of docs/BENCH.md says what it measures.
 
 mod agreement;
+mod any_book;
+mod clocks;
 mod components;
-mod contender;
+mod contenders;
 mod library;
+mod listings;
+mod machine;
+mod report;
 mod same_method;
+mod scenes;
+mod script;
 mod search;
+mod stack;
+mod stacks;
+mod table;
 mod timing;
 mod window;
 mod workload;
 
-use components::Components;
-use library::Library;
-use same_method::SameMethod;
-use search::Search;
-use timing::{least_times, per_call, play, Play};
-use workload::{Workload, KINDS};
-
-const NAMES: [&str; 6] = ["library", "a", "b", "c", "c once", "d"];
-
-fn report(workload: &Workload) {
-    agreement::check::<SameMethod<true>>(workload, "(a)");
-    agreement::check::<SameMethod<false>>(workload, "(b)");
-    agreement::check::<Components<true>>(workload, "(c)");
-    agreement::check::<Components<false>>(workload, "(c once a slide)");
-    agreement::check::<Search>(workload, "(d)");
-    let players: [Play; 6] = [
-        play::<Library>,
-        play::<SameMethod<true>>,
-        play::<SameMethod<false>>,
-        play::<Components<true>>,
-        play::<Components<false>>,
-        play::<Search>,
-    ];
-    let least = least_times(workload, &players, 9);
-    println!("\n{}", workload.name);
-    for kind in KINDS {
-        let times: Vec<Option<f64>> =
-            least.iter().map(|least| per_call(workload, least, kind)).collect();
-        print!("{:10}", format!("{kind:?}"));
-        for (name, time) in NAMES.iter().zip(&times) {
-            if let Some(time) = time {
-                print!("  {name} {time:8.0}");
-            }
-        }
-        if let (Some(library), Some(a)) = (times[0], times[1]) {
-            print!("   ratio to (a) {:.2}", library / a);
-        }
-        println!();
-    }
-}
+use scenes::{deep_crossing, dense, file, lidar, long_chain};
+use workload::Workload;
 
 fn main() {
-    report(&workload::lidar(8));
-    report(&workload::dense(16, 256));
-    report(&workload::longest_chain());
-    report(&workload::worst_crossing());
+    let contenders = contenders::all();
+    machine::print();
+    println!("\nlog: cleared by opening alone, which is not timed; chain buffer and kerblist's output: lent to call after call, not cleared");
+    println!(
+        "each figure: of each batch of calls the least of several rounds in which all take turns"
+    );
+    for contender in &contenders {
+        println!("{}: {}", contender.name, contender.what);
+    }
+
+    let workloads = [
+        lidar(8, 80),
+        dense(16, 256),
+        long_chain(1024),
+        deep_crossing(1024),
+    ];
+    report::compare(&contenders, &workloads);
+    println!("\n## The library's time over that of each baseline\n");
+    let files = [
+        ("lidar, 8,000 records", file(&workloads[0], 8_000)),
+        ("dense, 8,000 records", file(&dense(16, 250), 8_000)),
+    ];
+    report::print_ratios(&contenders, &workloads, &files);
+
+    let growing = growing();
+    report::compare(&contenders, &growing);
+    println!("\n## Growth with n and with the links: the library's ns a call (and over (a))\n");
+    report::print_growth(&contenders, &growing);
+    println!();
+    let dense = dense(16, 250);
+    let files = [
+        ("1,000 records", file(&dense, 1_000)),
+        ("2,000 records", file(&dense, 2_000)),
+        ("4,000 records", file(&dense, 4_000)),
+        ("8,000 records", file(&dense, 8_000)),
+    ];
+    report::print_listing_growth(&files);
+
+    println!("\n## Stack of each call\n");
+    report::print_stacks();
+}
+
+/// n from 1 to 16, links of a slide from 16 to 256, chains and crossings from 128 cells to all.
+fn growing() -> Vec<Workload> {
+    let mut workloads = Vec::new();
+    workloads.extend([1, 2, 4, 8, 16].map(|n| dense(n, 256)));
+    workloads.extend([16, 64, 128].map(|links| dense(16, links)));
+    workloads.extend([128, 256, 512, 1024].map(long_chain));
+    workloads.extend([128, 256, 512, 1024].map(deep_crossing));
+    workloads
 }

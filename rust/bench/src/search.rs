@@ -1,7 +1,7 @@
 //! Baseline (d): nothing is kept but the window's links, and each question is a search of them. For the chain: L by bisection,
 //! a search for each try; then the fewest links; then the first by cell numbers. It counts no steps.
 
-use crate::contender::{chain_refused, joined_refused, Contender};
+use crate::any_book::{chain_refused, joined_refused, AnyBook};
 use crate::window::{are_cells, Link, Window, CELLS};
 use kerb::calls::{ChainAnswer, JoinedAnswer};
 use kerb::Settings;
@@ -34,7 +34,8 @@ impl Neighbours {
     fn add(&mut self, of: u16, neighbour: u16) {
         let place = self.cell.len() as u16;
         self.cell.push(neighbour);
-        self.next.push(std::mem::replace(&mut self.first[usize::from(of)], place));
+        self.next
+            .push(std::mem::replace(&mut self.first[usize::from(of)], place));
     }
 
     fn of(&self, cell: u16) -> impl Iterator<Item = u16> + '_ {
@@ -133,7 +134,7 @@ impl Search {
     }
 }
 
-impl Contender for Search {
+impl AnyBook for Search {
     const COUNTS_STEPS: bool = false;
     const FINDS_CHAINS: bool = true;
 

@@ -1,27 +1,25 @@
-//! Times: each batch of a workload on its own, by the least of several rounds in which all take turns.
+//! Times. All take turns in several rounds, and of each batch of a workload the least time counts. What other programs do to
+//! one round then hardly shows.
 
-use crate::contender::Contender;
+use crate::any_book::AnyBook;
+use crate::clocks::taken;
+use crate::contenders::Contender;
 use crate::workload::{Calls, Kind, Workload};
 use kerb::CHAIN_PLACES;
 use std::hint::black_box;
-use std::time::Instant;
 
-/// Plays a workload into a book of its own, and lowers the least time of each batch, in nanoseconds. The log is cleared by the
-/// opening alone, which is not timed; the chain buffer is lent again and again and never cleared.
-pub type Play = fn(&Workload, &mut [u64]);
-
-pub fn play<C: Contender>(workload: &Workload, least: &mut [u64]) {
+/// Plays a workload into a book of its own, and lowers the least time of each batch. Opening alone clears the log, and is not
+/// timed; the chain buffer is lent to call after call and never cleared.
+pub fn play<C: AnyBook>(workload: &Workload, least: &mut [u64]) {
     let mut book = C::opened(workload.settings);
     let mut lent = [0; CHAIN_PLACES];
     for (batch, least) in workload.batches.iter().zip(least) {
-        let start = Instant::now();
-        call(&mut book, &batch.calls, &mut lent);
-        let taken = start.elapsed().as_nanos() as u64;
+        let taken = taken(|| call(&mut book, &batch.calls, &mut lent));
         *least = taken.min(*least);
     }
 }
 
-fn call<C: Contender>(book: &mut C, calls: &Calls, lent: &mut [u16]) {
+fn call<C: AnyBook>(book: &mut C, calls: &Calls, lent: &mut [u16]) {
     match calls {
         Calls::Clock(tick) => {
             black_box(book.clock(black_box(*tick)));
@@ -36,23 +34,22 @@ fn call<C: Contender>(book: &mut C, calls: &Calls, lent: &mut [u16]) {
                 black_box(book.joined(black_box(one), black_box(other)));
             }
         }
-        Calls::Chains(pairs) => {
+        Calls::Chains(pairs) if C::FINDS_CHAINS => {
             for &(one, other) in pairs {
-                if C::FINDS_CHAINS {
-                    black_box(book.chain(black_box(one), black_box(other), lent));
-                    black_box(&lent[0]);
-                }
+                black_box(book.chain(black_box(one), black_box(other), lent));
+                black_box(&lent);
             }
         }
+        Calls::Chains(_) => {}
     }
 }
 
-/// The least time of each batch of a workload, for each of those who play it.
-pub fn least_times(workload: &Workload, players: &[Play], rounds: usize) -> Vec<Vec<u64>> {
-    let mut least = vec![vec![u64::MAX; workload.batches.len()]; players.len()];
+/// The least time of each batch, for each contender.
+pub fn least_times(workload: &Workload, contenders: &[Contender], rounds: usize) -> Vec<Vec<u64>> {
+    let mut least = vec![vec![u64::MAX; workload.batches.len()]; contenders.len()];
     for _ in 0..rounds {
-        for (play, least) in players.iter().zip(&mut least) {
-            play(workload, least);
+        for (contender, least) in contenders.iter().zip(&mut least) {
+            (contender.play)(workload, least);
         }
     }
     least
@@ -60,14 +57,12 @@ pub fn least_times(workload: &Workload, players: &[Play], rounds: usize) -> Vec<
 
 /// Nanoseconds a call of one kind, if the workload has such calls.
 pub fn per_call(workload: &Workload, least: &[u64], kind: Kind) -> Option<f64> {
-    let batches = || {
-        workload
-            .batches
-            .iter()
-            .zip(least)
-            .filter(|(batch, _)| batch.kind == Some(kind))
-    };
-    let calls: usize = batches().map(|(batch, _)| batch.count()).sum();
-    let taken: u64 = batches().map(|(_, least)| *least).sum();
+    let (mut calls, mut taken) = (0, 0);
+    for (batch, least) in workload.batches.iter().zip(least) {
+        if batch.kind == Some(kind) {
+            calls += batch.count();
+            taken += least;
+        }
+    }
     (calls > 0).then(|| taken as f64 / calls as f64)
 }

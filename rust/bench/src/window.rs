@@ -77,7 +77,11 @@ impl Window {
             return false;
         }
         self.stored = 0;
-        while self.links.front().map_or(false, |link| link.slide + self.n() <= open) {
+        while self
+            .links
+            .front()
+            .map_or(false, |link| link.slide + self.n() <= open)
+        {
             self.links.pop_front();
         }
         true

@@ -38,25 +38,25 @@ struct Crossing<'a> {
 }
 
 impl Crossing<'_> {
-    fn from_backward(&mut self, group: usize) {
+    fn enter_backward(&mut self, group: usize) {
         self.backward.met[group] = true;
         let mut cell = self.backward.first[group];
         while cell != NONE {
             let shared = usize::from(self.forward.roots[usize::from(cell)]);
             if !self.forward.met[shared] {
-                self.from_forward(shared);
+                self.enter_forward(shared);
             }
             cell = self.backward.next[usize::from(cell)];
         }
     }
 
-    fn from_forward(&mut self, group: usize) {
+    fn enter_forward(&mut self, group: usize) {
         self.forward.met[group] = true;
         let mut cell = self.forward.first[group];
         while cell != NONE {
             let shared = usize::from(self.backward.roots[usize::from(cell)]);
             if !self.backward.met[shared] {
-                self.from_backward(shared);
+                self.enter_backward(shared);
             }
             cell = self.forward.next[usize::from(cell)];
         }
@@ -74,6 +74,6 @@ pub fn joined_across(
         backward: Side::new(backward),
         forward: Side::new(forward),
     };
-    crossing.from_backward(usize::from(backward[usize::from(one)]));
+    crossing.enter_backward(usize::from(backward[usize::from(one)]));
     crossing.backward.met[usize::from(backward[usize::from(other)])]
 }

@@ -82,7 +82,10 @@ impl Forest {
     fn sizes_double(&self) -> bool {
         const BLOCK: usize = 64;
         let mut fine = true;
-        let blocks = self.parent.chunks_exact(BLOCK).zip(self.size.chunks_exact(BLOCK));
+        let blocks = self
+            .parent
+            .chunks_exact(BLOCK)
+            .zip(self.size.chunks_exact(BLOCK));
         for (block, (parent, size)) in blocks.enumerate() {
             let mut above = [0; BLOCK];
             for (above, &parent) in above.iter_mut().zip(parent) {

@@ -3,12 +3,14 @@
 
 mod crossing;
 mod forest;
+mod listing;
 mod trail;
 
-use crate::contender::{chain_refused, joined_refused, Contender};
+use crate::any_book::{chain_refused, joined_refused, AnyBook};
 use forest::{every, Forest, Labelled, CELLS};
 use kerb::calls::{ChainAnswer, JoinedAnswer};
 use kerb::{Clock, Settings, CHAIN_PLACES, LOG_PLACES};
+pub use listing::list;
 use trail::WindowLinks;
 
 /// Places of a chunk's half in the counts and in the log, and links of a place.
@@ -165,7 +167,7 @@ impl<const CHECKED: bool> SameMethod<CHECKED> {
     }
 }
 
-impl<const CHECKED: bool> Contender for SameMethod<CHECKED> {
+impl<const CHECKED: bool> AnyBook for SameMethod<CHECKED> {
     const COUNTS_STEPS: bool = true;
     const FINDS_CHAINS: bool = true;
 
@@ -229,8 +231,8 @@ impl<const CHECKED: bool> Contender for SameMethod<CHECKED> {
         let backward_other = self.backward.walk_at(cut, other);
         let forward_one = self.forward.walk(one);
         let forward_other = self.forward.walk(other);
-        let in_one_forest = backward_one.root == backward_other.root
-            || forward_one.root == forward_other.root;
+        let in_one_forest =
+            backward_one.root == backward_other.root || forward_one.root == forward_other.root;
         JoinedAnswer {
             number: 0,
             yes: in_one_forest || self.across(cut, one, other),

@@ -4,7 +4,7 @@ use kerb::calls::{ChainAnswer, JoinedAnswer};
 use kerb::Settings;
 
 /// A book of links, in one way or another. Each call gives the number of document 01's table, 0 when it was done.
-pub trait Contender {
+pub trait AnyBook {
     /// Whether it counts the steps of the four walks.
     const COUNTS_STEPS: bool;
     /// Whether it can say by which chain two cells are joined.
