@@ -21,19 +21,13 @@ mod timing;
 mod window;
 mod workload;
 
+use contenders::Contender;
 use scenes::{deep_crossing, dense, file, lidar, long_chain};
 use workload::Workload;
 
 fn main() {
     let contenders = contenders::all();
-    machine::print();
-    println!("\nlog: cleared by opening alone, which is not timed; chain buffer and kerblist's output: lent to call after call, not cleared");
-    println!(
-        "each figure: of each batch of calls the least of several rounds in which all take turns"
-    );
-    for contender in &contenders {
-        println!("{}: {}", contender.name, contender.what);
-    }
+    print_head(&contenders);
 
     let workloads = [
         lidar(8, 80),
@@ -41,30 +35,41 @@ fn main() {
         long_chain(1024),
         deep_crossing(1024),
     ];
-    report::compare(&contenders, &workloads);
-    println!("\n## The library's time over that of each baseline\n");
+    let file_of_dense = dense(16, 250);
     let files = [
         ("lidar, 8,000 records", file(&workloads[0], 8_000)),
-        ("dense, 8,000 records", file(&dense(16, 250), 8_000)),
+        ("dense, 8,000 records", file(&file_of_dense, 8_000)),
     ];
+    report::compare(&contenders, &workloads);
+    println!("\n## The library's time over that of each baseline\n");
     report::print_ratios(&contenders, &workloads, &files);
 
     let growing = growing();
     report::compare(&contenders, &growing);
-    println!("\n## Growth with n and with the links: the library's ns a call (and over (a))\n");
+    println!("\n## Growth: the library's nanoseconds a call (and over (a))\n");
     report::print_growth(&contenders, &growing);
     println!();
-    let dense = dense(16, 250);
     let files = [
-        ("1,000 records", file(&dense, 1_000)),
-        ("2,000 records", file(&dense, 2_000)),
-        ("4,000 records", file(&dense, 4_000)),
-        ("8,000 records", file(&dense, 8_000)),
+        ("dense, 1,000 records", file(&file_of_dense, 1_000)),
+        ("dense, 2,000 records", file(&file_of_dense, 2_000)),
+        ("dense, 4,000 records", file(&file_of_dense, 4_000)),
+        ("dense, 8,000 records", file(&file_of_dense, 8_000)),
     ];
     report::print_listing_growth(&files);
 
     println!("\n## Stack of each call\n");
     report::print_stacks();
+}
+
+/// Where it runs, how it measures, and who is compared.
+fn print_head(contenders: &[Contender]) {
+    machine::print();
+    println!("times: the least of several rounds in which all take turns, batch by batch of calls");
+    println!("log: cleared by opening alone, which is not timed");
+    println!("chain buffer, kerblist's output: lent to call after call, not cleared");
+    for contender in contenders {
+        println!("{}: {}", contender.name, contender.what);
+    }
 }
 
 /// n from 1 to 16, links of a slide from 16 to 256, chains and crossings from 128 cells to all.

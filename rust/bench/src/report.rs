@@ -8,14 +8,13 @@ use crate::table::{print, ratio, whole};
 use crate::timing::{least_times, per_call};
 use crate::workload::{Kind, Workload, KINDS};
 
-/// Rounds for the ratios, and for growth.
+/// Rounds in which all take turns.
 const ROUNDS: usize = 9;
-const FEWER_ROUNDS: usize = 5;
 
 /// Nanoseconds a call, for each contender that has such a call; the library comes first and (a) second.
 type Times = Vec<Option<f64>>;
 
-/// Times of the calls of one kind in a workload, or nothing where it has none.
+/// A workload that everyone has played.
 struct Measured<'a> {
     contenders: &'a [Contender],
     workload: &'a Workload,
@@ -23,14 +22,15 @@ struct Measured<'a> {
 }
 
 impl<'a> Measured<'a> {
-    fn new(contenders: &'a [Contender], workload: &'a Workload, rounds: usize) -> Measured<'a> {
+    fn new(contenders: &'a [Contender], workload: &'a Workload) -> Measured<'a> {
         Measured {
             contenders,
             workload,
-            least: least_times(workload, contenders, rounds),
+            least: least_times(workload, contenders, ROUNDS),
         }
     }
 
+    /// Times of the calls of one kind, as far as the workload has such calls.
     fn times(&self, kind: Kind) -> Times {
         let has_it = |contender: &Contender| kind != Kind::Chain || contender.finds_chains;
         let contenders = self.contenders.iter().zip(&self.least);
@@ -46,7 +46,7 @@ impl<'a> Measured<'a> {
 /// Stops where someone's answers differ from the library's.
 pub fn compare(contenders: &[Contender], workloads: &[Workload]) {
     for workload in workloads {
-        for contender in contenders {
+        for contender in &contenders[1..] {
             (contender.check)(workload, contender.name);
         }
     }
@@ -56,7 +56,7 @@ pub fn compare(contenders: &[Contender], workloads: &[Workload]) {
 pub fn print_ratios(contenders: &[Contender], workloads: &[Workload], files: &[(&str, Vec<u8>)]) {
     let mut rows = Vec::new();
     for workload in workloads {
-        let measured = Measured::new(contenders, workload, ROUNDS);
+        let measured = Measured::new(contenders, workload);
         for kind in KINDS {
             let times = measured.times(kind);
             rows.extend(ratio_row(contenders, &workload.name, kind.name(), &times));
@@ -69,7 +69,7 @@ pub fn print_ratios(contenders: &[Contender], workloads: &[Workload], files: &[(
         rows.extend(ratio_row(
             contenders,
             &workload.name,
-            "a link and a joined",
+            "link and joined, sum",
             &both,
         ));
     }
@@ -115,7 +115,7 @@ fn quickest(contenders: &[Contender], times: &[Option<f64>]) -> &'static str {
 pub fn print_growth(contenders: &[Contender], workloads: &[Workload]) {
     let mut rows = Vec::new();
     for workload in workloads {
-        let measured = Measured::new(&contenders[..2], workload, FEWER_ROUNDS);
+        let measured = Measured::new(&contenders[..2], workload);
         let mut row = vec![workload.name.clone()];
         row.extend(KINDS.iter().map(|&kind| growth_cell(&measured.times(kind))));
         rows.push(row);
@@ -129,7 +129,7 @@ pub fn print_growth(contenders: &[Contender], workloads: &[Workload]) {
 pub fn print_listing_growth(files: &[(&str, Vec<u8>)]) {
     let mut rows = Vec::new();
     for (name, file) in files {
-        let times = listings::times(file, FEWER_ROUNDS);
+        let times = listings::times(file, ROUNDS);
         rows.push(vec![name.to_string(), growth_cell(&times)]);
     }
     print(&["file", "kerblist"], 1, &rows);

@@ -1,6 +1,7 @@
 //! The workloads, drawn from seeds.
 
 use crate::script::{for_oracle, Script};
+use crate::table::whole;
 use crate::workload::{Calls, Pair, Workload};
 use oracle::Record;
 use streams::files::file_of;
@@ -53,7 +54,8 @@ pub fn lidar(n: u8, slides: u32) -> Workload {
 /// about are its ends.
 pub fn long_chain(cells: usize) -> Workload {
     let n = 16;
-    let mut script = Script::opened(format!("chain of {} links, n {n}", cells - 1), n);
+    let links = whole((cells - 1) as f64);
+    let mut script = Script::opened(format!("chain of {links} links, n {n}"), n);
     let cells = &script.shuffled_cells()[..cells];
     let mut links: Vec<Pair> = cells.windows(2).map(|two| (two[0], two[1])).collect();
     script.dice.shuffle(&mut links);
@@ -67,7 +69,8 @@ pub fn long_chain(cells: usize) -> Workload {
 /// are cells: no crossing over so many cells is deeper.
 pub fn deep_crossing(cells: usize) -> Workload {
     let n = 4;
-    let mut script = Script::opened(format!("crossing of {} groups, n {n}", cells + 1), n);
+    let groups = whole((cells + 1) as f64);
+    let mut script = Script::opened(format!("crossing of {groups} groups, n {n}"), n);
     let cells = &script.shuffled_cells()[..cells];
     let pairs = |from: usize| -> Vec<Pair> {
         let twos = cells[from..].chunks_exact(2);

@@ -73,13 +73,16 @@ impl Script {
         }
     }
 
-    /// Asks whether the pairs are joined, and for the chains of some that are.
+    /// Asks whether the pairs are joined, and for the chains of some that are; where none are, for that of a link.
     pub fn ask(&mut self, pairs: Vec<Pair>) {
         let chained = |&(one, other): &Pair| {
             let answer = self.book.joined(u32::from(one), u32::from(other));
             one != other && answer.map_or(false, |answer| answer.joined)
         };
-        let chains: Vec<Pair> = pairs.iter().copied().filter(chained).take(CHAINS).collect();
+        let mut chains: Vec<Pair> = pairs.iter().copied().filter(chained).take(CHAINS).collect();
+        if chains.is_empty() {
+            chains.push(self.any_link());
+        }
         self.push(Calls::Joined(pairs), Some(Kind::Joined));
         self.push(Calls::Chains(chains), Some(Kind::Chain));
     }
@@ -98,12 +101,12 @@ impl Script {
 
     /// Two cells of links of the window.
     pub fn linked_pair(&mut self) -> Pair {
-        (self.linked_cell(), self.linked_cell())
+        (self.any_link().0, self.any_link().0)
     }
 
-    fn linked_cell(&mut self) -> u16 {
+    fn any_link(&mut self) -> Pair {
         let slide = self.dice.below(self.window.len() as u64) as usize;
-        self.dice.pick(&self.window[slide]).0
+        self.dice.pick(&self.window[slide])
     }
 
     pub fn shuffled_cells(&mut self) -> Vec<u16> {

@@ -1,9 +1,11 @@
 //! Baselines (a) and (b): the library's own method in plain Rust, over a book that is altered in place. `CHECKED` says whether
 //! number 1 is asked at every call (a) or not (b); all other checks are made in both.
 
+mod across;
 mod crossing;
 mod forest;
 mod listing;
+mod time;
 mod trail;
 
 use crate::any_book::{chain_refused, joined_refused, AnyBook};
@@ -11,7 +13,6 @@ use forest::{every, Forest, Labelled, CELLS};
 use kerb::calls::{ChainAnswer, JoinedAnswer};
 use kerb::{Clock, Settings, CHAIN_PLACES, LOG_PLACES};
 pub use listing::list;
-use trail::WindowLinks;
 
 /// Places of a chunk's half in the counts and in the log, and links of a place.
 const PLACES: usize = 16;
@@ -30,33 +31,6 @@ pub struct SameMethod<const CHECKED: bool> {
 }
 
 impl<const CHECKED: bool> SameMethod<CHECKED> {
-    fn slide(&self, tick: u32) -> u64 {
-        u64::from((tick - self.clock.t0) / self.clock.b)
-    }
-
-    fn open_slide(&self) -> u64 {
-        self.slide(self.clock.time)
-    }
-
-    fn chunk(&self, slide: u64) -> u64 {
-        slide / u64::from(self.clock.n)
-    }
-
-    fn place(&self, slide: u64) -> usize {
-        (slide % u64::from(self.clock.n)) as usize
-    }
-
-    /// Where the links of a slide are counted and logged.
-    fn spot(&self, slide: u64) -> usize {
-        (self.chunk(slide) % 2) as usize * PLACES + self.place(slide)
-    }
-
-    /// The log's pairs of a spot, in order of arrival.
-    fn pairs(&self, spot: usize) -> &[u16] {
-        let start = 2 * usize::from(LINKS) * spot;
-        &self.log[start..start + 2 * usize::from(self.counts[spot])]
-    }
-
     /// Number 1: every field is in its range and no walk exceeds its steps.
     fn in_order(&self) -> bool {
         let clock = &self.clock;
@@ -98,72 +72,6 @@ impl<const CHECKED: bool> SameMethod<CHECKED> {
             return 5;
         }
         0
-    }
-
-    /// The step of time: within a chunk nothing else changes; into the next chunk the backward forest is built from the chunk
-    /// that ends; further, nothing is left.
-    fn move_to(&mut self, tick: u32) {
-        let before = self.chunk(self.open_slide());
-        let after = self.chunk(self.slide(tick));
-        self.clock.time = tick;
-        if after == before {
-            return;
-        }
-        self.forward = Forest::fresh();
-        self.backward = Labelled::fresh();
-        if after == before + 1 {
-            self.scan_chunk((before % 2) as usize);
-            let half = (after % 2) as usize;
-            self.counts[half * PLACES..][..PLACES].fill(0);
-        } else {
-            self.counts.fill(0);
-        }
-    }
-
-    /// Places n - 1 down to 1 into the backward forest, in each place the last arrival first.
-    fn scan_chunk(&mut self, half: usize) {
-        for place in (1..self.clock.n).rev() {
-            let spot = half * PLACES + usize::from(place);
-            let start = 2 * usize::from(LINKS) * spot;
-            let count = usize::from(self.counts[spot]);
-            for pair in self.log[start..start + 2 * count].chunks_exact(2).rev() {
-                if pair[0] < CELLS as u16 && pair[1] < CELLS as u16 {
-                    self.backward.unite(pair[0], pair[1], place);
-                }
-            }
-        }
-    }
-
-    /// Where neither forest alone decides: a cell that stands alone is spared the crossing.
-    fn across(&self, cut: u8, one: u16, other: u16) -> bool {
-        if self.alone(cut, one) || self.alone(cut, other) {
-            return one == other;
-        }
-        let backward = self.backward.roots_at(cut);
-        let forward = self.forward.roots();
-        crossing::joined_across(&backward, &forward, one, other)
-    }
-
-    /// Whether no parent step leaves or reaches the cell, in either forest.
-    fn alone(&self, cut: u8, asked: u16) -> bool {
-        let mut fine = true;
-        for cell in 0..CELLS as u16 {
-            let is_asked = cell == asked;
-            fine &= (self.backward.parent_at(cut, cell) == asked) == is_asked;
-            fine &= (self.forward.parent[usize::from(cell)] == asked) == is_asked;
-        }
-        fine
-    }
-
-    /// The window's links, newest slide first.
-    fn window_links(&self) -> WindowLinks {
-        let n = self.clock.n;
-        let open = self.open_slide();
-        let mut links = WindowLinks::new(n);
-        for age in 0..u64::from(n).min(open + 1) {
-            links.add(self.pairs(self.spot(open - age)), n - age as u8);
-        }
-        links
     }
 }
 

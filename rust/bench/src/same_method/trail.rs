@@ -2,6 +2,26 @@
 //! smallest neighbour that is one nearer.
 
 use super::forest::{Labelled, CELLS};
+use super::{SameMethod, LINKS};
+
+impl<const CHECKED: bool> SameMethod<CHECKED> {
+    /// The window's links, newest slide first.
+    pub fn window_links(&self) -> WindowLinks {
+        let n = self.clock.n;
+        let open = self.open_slide();
+        let mut links = WindowLinks::new(n);
+        for age in 0..u64::from(n).min(open + 1) {
+            links.add(self.pairs(self.spot(open - age)), n - age as u8);
+        }
+        links
+    }
+
+    /// The log's pairs of a spot, in order of arrival.
+    fn pairs(&self, spot: usize) -> &[u16] {
+        let start = 2 * usize::from(LINKS) * spot;
+        &self.log[start..start + 2 * usize::from(self.counts[spot])]
+    }
+}
 
 /// The window's links, newest slide first, each with a label: n for the open slide, one less for each slide before.
 pub struct WindowLinks {
