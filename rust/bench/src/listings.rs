@@ -6,18 +6,17 @@ use crate::same_method;
 use kerb::LISTING_BYTES;
 use std::hint::black_box;
 
-/// Lists a file. The output is lent to run after run; the library writes over what is there, the others empty it first.
-type List = fn(&[u8], &mut Vec<u8>);
+/// Lists a file at the front of an output, and gives the length of the text. The output is lent to run after run, not cleared.
+type List = fn(&[u8], &mut [u8]) -> usize;
 
-fn by_library(file: &[u8], out: &mut Vec<u8>) {
-    out.resize(LISTING_BYTES, 0);
-    let length = kerb::list(file, out).expect("a long enough output");
-    out.truncate(length);
+fn by_library(file: &[u8], out: &mut [u8]) -> usize {
+    kerb::list(file, out).expect("a long enough output")
 }
 
-fn by_oracle(file: &[u8], out: &mut Vec<u8>) {
-    out.clear();
-    out.extend_from_slice(oracle::listing(file).as_bytes());
+fn by_oracle(file: &[u8], out: &mut [u8]) -> usize {
+    let text = oracle::listing(file);
+    out[..text.len()].copy_from_slice(text.as_bytes());
+    text.len()
 }
 
 /// In the order of the contenders.
@@ -32,19 +31,23 @@ const LISTS: [Option<List>; 6] = [
 
 /// Nanoseconds of a listing for each contender, the least of several rounds. Stops where the texts differ.
 pub fn times(file: &[u8], rounds: usize) -> Vec<Option<f64>> {
-    let mut out = Vec::new();
-    let mut text = Vec::new();
-    by_library(file, &mut text);
-    let mut least = vec![None; LISTS.len()];
+    let mut expected = vec![0; LISTING_BYTES];
+    let length = by_library(file, &mut expected);
+    expected.truncate(length);
+    let mut out = vec![0; LISTING_BYTES];
+    let mut least = [u64::MAX; LISTS.len()];
     for _ in 0..rounds {
         for (list, least) in LISTS.iter().zip(&mut least) {
             if let Some(list) = list {
-                let worked = worked(|| list(black_box(file), &mut out));
-                assert!(out == text, "a listing differs from the library's");
-                *least = Some(least.map_or(worked, |least: u64| worked.min(least)));
+                let mut length = 0;
+                let worked = worked(|| length = list(black_box(file), &mut out));
+                assert!(out[..length] == expected, "a listing is not the library's");
+                *least = worked.min(*least);
             }
         }
     }
-    let nanoseconds = |least: Option<u64>| least.map(|least| least as f64);
-    least.into_iter().map(nanoseconds).collect()
+    let lists = LISTS.iter().zip(least);
+    lists
+        .map(|(list, least)| list.map(|_| least as f64))
+        .collect()
 }

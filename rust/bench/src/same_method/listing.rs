@@ -7,8 +7,8 @@ use kerb::Settings;
 use oracle::{read, record, Record};
 use std::io::Write;
 
-/// What kerblist prints for a file of which every record is taken, into a buffer that is emptied first.
-pub fn list<const CHECKED: bool>(file: &[u8], out: &mut Vec<u8>) {
+/// What kerblist prints for a file of which every record is taken, at the front of the output; gives its length.
+pub fn list<const CHECKED: bool>(file: &[u8], out: &mut [u8]) -> usize {
     let head = read(file).expect("a good file");
     let settings = Settings {
         t0: head.settings.t0,
@@ -21,13 +21,14 @@ pub fn list<const CHECKED: bool>(file: &[u8], out: &mut Vec<u8>) {
         let Record { tick, a, b } = record(file, place);
         assert_eq!(book.link(tick, a, b), 0, "a good record");
     }
-    out.clear();
-    book.write_listing(out)
-        .expect("memory takes what is written");
+    let room = out.len();
+    let mut rest = out;
+    book.write_listing(&mut rest).expect("a long enough output");
+    room - rest.len()
 }
 
 impl<const CHECKED: bool> SameMethod<CHECKED> {
-    fn write_listing(&self, out: &mut Vec<u8>) -> std::io::Result<()> {
+    fn write_listing(&self, out: &mut impl Write) -> std::io::Result<()> {
         let open = self.open_slide();
         let (n, b) = (self.clock.n, self.clock.b);
         writeln!(out, "window {n} {b} {} {open}", self.mounting)?;
