@@ -1,5 +1,6 @@
 //! The benchmark: the library against baselines, everyone in turns in one run. It is a report and no test: nothing fails by time.
-//! The head of docs/BENCH.md says what it measures.
+//! The head of docs/BENCH.md says what it measures. With the name of a contender and that of a workload it only plays the one
+//! into the other, for callgrind.
 
 mod agreement;
 mod any_book;
@@ -26,28 +27,49 @@ use scenes::{deep_crossing, dense, file, lidar, long_chain};
 use workload::Workload;
 
 fn main() {
-    let contenders = contenders::all();
-    print_head(&contenders);
+    let words: Vec<String> = std::env::args().skip(1).collect();
+    match words.as_slice() {
+        [] => report(&contenders::all(), &workloads()),
+        [contender, workload] => play(contender, workload),
+        _ => panic!("no words, or a contender and the first word of a workload"),
+    }
+}
 
-    let workloads = [
+fn workloads() -> [Workload; 4] {
+    [
         lidar(8, 80),
         dense(16, 256),
         long_chain(1024),
         deep_crossing(1024),
-    ];
+    ]
+}
+
+/// One contender plays one workload.
+fn play(contender: &str, workload: &str) {
+    let contenders = contenders::all();
+    let workloads = workloads();
+    let contender = contenders.iter().find(|one| one.name == contender);
+    let workload = workloads.iter().find(|one| one.name.starts_with(workload));
+    let workload = workload.expect("a workload");
+    let mut least = vec![u64::MAX; workload.batches.len()];
+    (contender.expect("a contender").play)(workload, &mut least);
+}
+
+fn report(contenders: &[Contender], workloads: &[Workload]) {
+    print_head(contenders);
     let file_of_dense = dense(16, 250);
     let files = [
         ("lidar, 8,000 records", file(&workloads[0], 8_000)),
         ("dense, 8,000 records", file(&file_of_dense, 8_000)),
     ];
-    report::compare(&contenders, &workloads);
+    report::compare(contenders, workloads);
     println!("\n## The library's time over that of each baseline\n");
-    report::print_ratios(&contenders, &workloads, &files);
+    report::print_ratios(contenders, workloads, &files);
 
     let growing = growing();
-    report::compare(&contenders, &growing);
+    report::compare(contenders, &growing);
     println!("\n## Growth: the library's nanoseconds a call (and over (a))\n");
-    report::print_growth(&contenders, &growing);
+    report::print_growth(contenders, &growing);
     println!();
     let files = [
         ("dense, 1,000 records", file(&file_of_dense, 1_000)),

@@ -8,7 +8,7 @@ use crate::table::{print, ratio, whole};
 use crate::timing::{least_times, per_call};
 use crate::workload::{Kind, Workload, KINDS};
 
-/// Rounds in which all take turns.
+/// Rounds of listings in which all take turns.
 const ROUNDS: usize = 9;
 
 /// Nanoseconds a call, for each contender that has such a call; the library comes first and (a) second.
@@ -26,7 +26,7 @@ impl<'a> Measured<'a> {
         Measured {
             contenders,
             workload,
-            least: least_times(workload, contenders, ROUNDS),
+            least: least_times(workload, contenders),
         }
     }
 

@@ -7,6 +7,7 @@ use crate::contenders::Contender;
 use crate::workload::{Calls, Kind, Workload};
 use kerb::CHAIN_PLACES;
 use std::hint::black_box;
+use std::time::{Duration, Instant};
 
 /// Plays a workload into a book of its own, and lowers the least time of each batch. Opening alone clears the log, and is not
 /// timed; the chain buffer is lent to call after call and never cleared.
@@ -44,13 +45,20 @@ fn call<C: AnyBook>(book: &mut C, calls: &Calls, lent: &mut [u16]) {
     }
 }
 
+/// Rounds in which all take turns: so many, and more of a short workload.
+const ROUNDS: usize = 9;
+const LEAST_TIME: Duration = Duration::from_millis(500);
+
 /// The least time of each batch, for each contender.
-pub fn least_times(workload: &Workload, contenders: &[Contender], rounds: usize) -> Vec<Vec<u64>> {
+pub fn least_times(workload: &Workload, contenders: &[Contender]) -> Vec<Vec<u64>> {
     let mut least = vec![vec![u64::MAX; workload.batches.len()]; contenders.len()];
-    for _ in 0..rounds {
+    let start = Instant::now();
+    let mut rounds = 0;
+    while rounds < ROUNDS || start.elapsed() < LEAST_TIME {
         for (contender, least) in contenders.iter().zip(&mut least) {
             (contender.play)(workload, least);
         }
+        rounds += 1;
     }
     least
 }
