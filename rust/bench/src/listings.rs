@@ -29,25 +29,53 @@ const LISTS: [Option<List>; 6] = [
     Some(by_oracle),
 ];
 
-/// Nanoseconds of a listing for each contender, the least of several rounds. Stops where the texts differ.
-pub fn times(file: &[u8], rounds: usize) -> Vec<Option<f64>> {
+/// Rounds over all files, in which all contenders take turns.
+const ROUNDS: usize = 9;
+
+/// A link file, and what it is called.
+pub type Named = (&'static str, Vec<u8>);
+
+/// Nanoseconds of the listing of each file, for each contender the least of several rounds.
+pub fn times(files: &[Named]) -> Vec<Vec<Option<f64>>> {
+    let mut least = vec![vec![u64::MAX; LISTS.len()]; files.len()];
+    for _ in 0..ROUNDS {
+        for ((_, file), least) in files.iter().zip(&mut least) {
+            take_turns(file, least);
+        }
+    }
+    let times = |least: Vec<u64>| {
+        let lists = LISTS.iter().zip(least);
+        lists.map(|(list, least)| list.map(|_| least as f64))
+    };
+    least
+        .into_iter()
+        .map(|least| times(least).collect())
+        .collect()
+}
+
+/// Everyone lists a file. Stops where a text is not the library's.
+fn take_turns(file: &[u8], least: &mut [u64]) {
     let mut expected = vec![0; LISTING_BYTES];
     let length = by_library(file, &mut expected);
     expected.truncate(length);
     let mut out = vec![0; LISTING_BYTES];
-    let mut least = [u64::MAX; LISTS.len()];
-    for _ in 0..rounds {
-        for (list, least) in LISTS.iter().zip(&mut least) {
-            if let Some(list) = list {
-                let mut length = 0;
-                let worked = worked(|| length = list(black_box(file), &mut out));
-                assert!(out[..length] == expected, "a listing is not the library's");
-                *least = worked.min(*least);
-            }
+    for (list, least) in LISTS.iter().zip(least) {
+        if let Some(list) = list {
+            let mut length = 0;
+            let worked = worked(|| length = list(black_box(file), &mut out));
+            assert!(out[..length] == expected, "a listing is not the library's");
+            *least = worked.min(*least);
         }
     }
-    let lists = LISTS.iter().zip(least);
-    lists
-        .map(|(list, least)| list.map(|_| least as f64))
-        .collect()
+}
+
+#[cfg(test)]
+mod tests {
+    use crate::scenes::{dense, file, lidar};
+
+    #[test]
+    fn all_give_the_listing_of_the_library() {
+        super::take_turns(&file(&lidar(3, 20), 1_000), &mut [0; 6]);
+        super::take_turns(&file(&dense(5, 70), 1_000), &mut [0; 6]);
+    }
 }

@@ -1,15 +1,12 @@
 //! What is measured for each table, and its rows.
 
 use crate::contenders::Contender;
-use crate::listings;
+use crate::listings::{self, Named};
 use crate::stack::LEAST;
 use crate::stacks;
 use crate::table::{print, ratio, whole};
 use crate::timing::{least_times, per_call};
 use crate::workload::{Kind, Workload, KINDS};
-
-/// Rounds of listings in which all take turns.
-const ROUNDS: usize = 9;
 
 /// Nanoseconds a call, for each contender that has such a call; the library comes first and (a) second.
 type Times = Vec<Option<f64>>;
@@ -21,15 +18,20 @@ struct Measured<'a> {
     least: Vec<Vec<u64>>,
 }
 
-impl<'a> Measured<'a> {
-    fn new(contenders: &'a [Contender], workload: &'a Workload) -> Measured<'a> {
-        Measured {
+/// Everyone plays all workloads.
+fn measure<'a>(contenders: &'a [Contender], workloads: &'a [Workload]) -> Vec<Measured<'a>> {
+    let least = least_times(workloads, contenders);
+    let workloads = workloads.iter().zip(least);
+    workloads
+        .map(|(workload, least)| Measured {
             contenders,
             workload,
-            least: least_times(workload, contenders),
-        }
-    }
+            least,
+        })
+        .collect()
+}
 
+impl Measured<'_> {
     /// Times of the calls of one kind, as far as the workload has such calls.
     fn times(&self, kind: Kind) -> Times {
         let has_it = |contender: &Contender| kind != Kind::Chain || contender.finds_chains;
@@ -53,28 +55,22 @@ pub fn compare(contenders: &[Contender], workloads: &[Workload]) {
 }
 
 /// The library's time over everyone else's, on workloads and on the listings of files.
-pub fn print_ratios(contenders: &[Contender], workloads: &[Workload], files: &[(&str, Vec<u8>)]) {
+pub fn print_ratios(contenders: &[Contender], workloads: &[Workload], files: &[Named]) {
     let mut rows = Vec::new();
-    for workload in workloads {
-        let measured = Measured::new(contenders, workload);
+    for measured in measure(contenders, workloads) {
+        let name = &measured.workload.name;
         for kind in KINDS {
             let times = measured.times(kind);
-            rows.extend(ratio_row(contenders, &workload.name, kind.name(), &times));
+            rows.extend(ratio_row(contenders, name, kind.name(), &times));
         }
         let links = measured.times(Kind::Link);
         let both = links.iter().zip(measured.times(Kind::Joined));
         let both: Times = both
             .map(|(link, joined)| Some((*link)? + joined?))
             .collect();
-        rows.extend(ratio_row(
-            contenders,
-            &workload.name,
-            "link and joined, sum",
-            &both,
-        ));
+        rows.extend(ratio_row(contenders, name, "link and joined, sum", &both));
     }
-    for (name, file) in files {
-        let times = listings::times(file, ROUNDS);
+    for ((name, _), times) in files.iter().zip(listings::times(files)) {
         rows.extend(ratio_row(contenders, name, "kerblist", &times));
     }
     let mut head = vec!["workload", "call", "library, ns"];
@@ -114,9 +110,8 @@ fn quickest(contenders: &[Contender], times: &[Option<f64>]) -> &'static str {
 /// The library's times on workloads that grow, each with its ratio to (a).
 pub fn print_growth(contenders: &[Contender], workloads: &[Workload]) {
     let mut rows = Vec::new();
-    for workload in workloads {
-        let measured = Measured::new(&contenders[..2], workload);
-        let mut row = vec![workload.name.clone()];
+    for measured in measure(&contenders[..2], workloads) {
+        let mut row = vec![measured.workload.name.clone()];
         row.extend(KINDS.iter().map(|&kind| growth_cell(&measured.times(kind))));
         rows.push(row);
     }
@@ -126,12 +121,12 @@ pub fn print_growth(contenders: &[Contender], workloads: &[Workload]) {
 }
 
 /// The same for listings.
-pub fn print_listing_growth(files: &[(&str, Vec<u8>)]) {
-    let mut rows = Vec::new();
-    for (name, file) in files {
-        let times = listings::times(file, ROUNDS);
-        rows.push(vec![name.to_string(), growth_cell(&times)]);
-    }
+pub fn print_listing_growth(files: &[Named]) {
+    let rows: Vec<Vec<String>> = files
+        .iter()
+        .zip(listings::times(files))
+        .map(|((name, _), times)| vec![name.to_string(), growth_cell(&times)])
+        .collect();
     print(&["file", "kerblist"], 1, &rows);
 }
 
@@ -158,7 +153,7 @@ pub fn print_stacks() {
 #[cfg(test)]
 mod tests {
     use crate::contenders;
-    use crate::scenes::{deep_crossing, dense, file, lidar, long_chain};
+    use crate::scenes::{deep_crossing, dense, lidar, long_chain};
 
     #[test]
     fn all_give_the_answers_of_the_library() {
@@ -170,11 +165,5 @@ mod tests {
             deep_crossing(1024),
         ];
         super::compare(&contenders::all(), &workloads);
-    }
-
-    #[test]
-    fn all_give_the_listing_of_the_library() {
-        crate::listings::times(&file(&lidar(3, 20), 1_000), 1);
-        crate::listings::times(&file(&dense(5, 70), 1_000), 1);
     }
 }

@@ -45,22 +45,37 @@ fn call<C: AnyBook>(book: &mut C, calls: &Calls, lent: &mut [u16]) {
     }
 }
 
-/// Rounds in which all take turns: so many, and more of a short workload.
+/// Rounds over all workloads, in which all contenders take turns.
 const ROUNDS: usize = 9;
-const LEAST_TIME: Duration = Duration::from_millis(500);
+/// A short workload is played again and again for so long in each round.
+const TURN: Duration = Duration::from_millis(50);
 
-/// The least time of each batch, for each contender.
-pub fn least_times(workload: &Workload, contenders: &[Contender]) -> Vec<Vec<u64>> {
-    let mut least = vec![vec![u64::MAX; workload.batches.len()]; contenders.len()];
-    let start = Instant::now();
-    let mut rounds = 0;
-    while rounds < ROUNDS || start.elapsed() < LEAST_TIME {
-        for (contender, least) in contenders.iter().zip(&mut least) {
-            (contender.play)(workload, least);
+/// The least time of each batch, by workload and contender. A round goes over all workloads, so that a slow spell of the machine
+/// does not fall on one of them alone.
+pub fn least_times(workloads: &[Workload], contenders: &[Contender]) -> Vec<Vec<Vec<u64>>> {
+    let unknown = |workload: &Workload| vec![u64::MAX; workload.batches.len()];
+    let mut least: Vec<Vec<Vec<u64>>> = workloads
+        .iter()
+        .map(|workload| vec![unknown(workload); contenders.len()])
+        .collect();
+    for _ in 0..ROUNDS {
+        for (workload, least) in workloads.iter().zip(&mut least) {
+            take_turns(workload, contenders, least);
         }
-        rounds += 1;
     }
     least
+}
+
+fn take_turns(workload: &Workload, contenders: &[Contender], least: &mut [Vec<u64>]) {
+    let start = Instant::now();
+    loop {
+        for (contender, least) in contenders.iter().zip(&mut *least) {
+            (contender.play)(workload, least);
+        }
+        if TURN <= start.elapsed() {
+            return;
+        }
+    }
 }
 
 /// Nanoseconds a call of one kind, if the workload has such calls.
