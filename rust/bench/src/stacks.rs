@@ -29,6 +29,8 @@ fn changes(stacks: &mut Vec<Stack>) {
     };
     let mut book = Box::new(Book::never_opened());
     let mut log = vec![0; LOG_PLACES];
+    let never_opened = used(|| *book = Book::never_opened());
+    stacks.push(("never_opened", never_opened));
     let opening = used(|| book.opening(&mut log, settings).expect("good settings"));
     stacks.push(("opening", opening));
     let link = used(|| book.link(&mut log, 1, 1, 2).expect("a good link"));

@@ -173,3 +173,52 @@ impl<const CHECKED: bool> AnyBook for SameMethod<CHECKED> {
         }
     }
 }
+
+#[cfg(test)]
+mod tests {
+    use super::*;
+
+    /// The number that a clock call gives for a fresh book after an alteration.
+    fn number_after(alter: impl Fn(&mut SameMethod<true>)) -> u8 {
+        let settings = Settings {
+            t0: 0,
+            b: 10,
+            n: 3,
+            mounting: 1,
+        };
+        let mut book = SameMethod::opened(settings);
+        alter(&mut book);
+        book.clock(5)
+    }
+
+    #[test]
+    fn number_1_is_given_for_a_field_outside_its_range() {
+        assert_eq!(number_after(|_| ()), 0);
+        assert_eq!(number_after(|book| book.clock.n = 17), 1);
+        assert_eq!(number_after(|book| book.mounting = 0), 1);
+        assert_eq!(number_after(|book| book.counts[31] = 257), 1);
+        assert_eq!(number_after(|book| book.forward.parent[1023] = 1024), 1);
+        assert_eq!(number_after(|book| book.backward.label[7] = 16), 1);
+    }
+
+    #[test]
+    fn number_1_is_given_for_a_walk_over_10_steps_whatever_the_sizes() {
+        let walk_of = |steps: usize| {
+            number_after(|book| {
+                for cell in 0..steps {
+                    book.backward.forest.parent[cell] = cell as u16 + 1;
+                }
+            })
+        };
+        assert_eq!((walk_of(10), walk_of(11)), (0, 1));
+    }
+
+    #[test]
+    fn number_1_is_given_for_a_circle() {
+        let circle = |book: &mut SameMethod<true>| {
+            book.forward.parent[3] = 4;
+            book.forward.parent[4] = 3;
+        };
+        assert_eq!(number_after(circle), 1);
+    }
+}
