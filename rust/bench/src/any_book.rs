@@ -1,0 +1,45 @@
+//! What the benchmark asks of the library and of everything that it is compared with.
+
+use kerb::calls::{ChainAnswer, JoinedAnswer};
+use kerb::Settings;
+
+/// A book of links, in one way or another. Each call gives the number of document 01's table, 0 when it was done.
+pub trait AnyBook {
+    /// Whether it counts the steps of the four walks.
+    const COUNTS_STEPS: bool;
+    /// Whether it can say by which chain two cells are joined.
+    const FINDS_CHAINS: bool;
+
+    /// A book that was just opened; the settings are good ones.
+    fn opened(settings: Settings) -> Self;
+
+    /// A link, in the unit's numbers.
+    fn link(&mut self, tick: u32, one: u16, other: u16) -> u8;
+
+    /// The time moves to the tick.
+    fn clock(&mut self, tick: u32) -> u8;
+
+    fn joined(&mut self, one: u16, other: u16) -> JoinedAnswer;
+
+    /// The chain goes to the front of the lent buffer.
+    fn chain(&mut self, one: u16, other: u16, lent: &mut [u16]) -> ChainAnswer;
+}
+
+/// The answer of a refused joined call.
+pub fn joined_refused(number: u8) -> JoinedAnswer {
+    JoinedAnswer {
+        number,
+        yes: false,
+        steps: 0,
+    }
+}
+
+/// The answer of a refused chain call.
+pub fn chain_refused(number: u8) -> ChainAnswer {
+    ChainAnswer {
+        newest: 0,
+        cells: 0,
+        hold: 0,
+        number,
+    }
+}

@@ -1,0 +1,224 @@
+//! Baselines (a) and (b): the library's own method in plain Rust, over a book that is altered in place. `CHECKED` says whether
+//! number 1 is asked at every call (a) or not (b); all other checks are made in both.
+
+mod across;
+mod crossing;
+mod forest;
+mod listing;
+mod time;
+mod trail;
+
+use crate::any_book::{chain_refused, joined_refused, AnyBook};
+use forest::{every, Forest, Labelled, CELLS};
+use kerb::calls::{ChainAnswer, JoinedAnswer};
+use kerb::{Clock, Settings, CHAIN_PLACES, LOG_PLACES};
+pub use listing::list;
+
+/// Places of a chunk's half in the counts and in the log, and links of a place.
+const PLACES: usize = 16;
+const LINKS: u16 = 256;
+
+pub struct SameMethod<const CHECKED: bool> {
+    clock: Clock,
+    mounting: u8,
+    /// Links stored, at half * 16 + place; half = chunk mod 2.
+    counts: [u16; 2 * PLACES],
+    /// The links of the open chunk.
+    forward: Forest,
+    /// The links of the chunk before, each with its place as label.
+    backward: Labelled,
+    log: Vec<u16>,
+}
+
+impl<const CHECKED: bool> SameMethod<CHECKED> {
+    /// Number 1: every field is in its range and no walk exceeds its steps.
+    fn in_order(&self) -> bool {
+        let clock = &self.clock;
+        (1..=16).contains(&clock.n)
+            && 1 <= clock.b
+            && clock.t0 <= clock.time
+            && (1..=2).contains(&self.mounting)
+            && every(&self.counts, |count| count <= LINKS)
+            && self.forward.is_sound()
+            && self.backward.forest.is_sound()
+            && every(&self.backward.label, |label| label < PLACES as u8)
+    }
+
+    /// The lorry's number of a unit's cell.
+    fn lorry_cell(&self, cell: u16) -> u16 {
+        if self.mounting == 2 {
+            cell ^ 63
+        } else {
+            cell
+        }
+    }
+
+    fn link_number(&self, tick: u32, one: u16, other: u16) -> u8 {
+        if CHECKED && !self.in_order() {
+            return 1;
+        }
+        if self.log.len() < LOG_PLACES {
+            return 6;
+        }
+        if CELLS as u16 <= one || CELLS as u16 <= other {
+            return 3;
+        }
+        if tick < self.clock.time {
+            return 4;
+        }
+        let slide = self.slide(tick);
+        let in_open_chunk = self.chunk(slide) == self.chunk(self.open_slide());
+        if in_open_chunk && LINKS <= self.counts[self.spot(slide)] {
+            return 5;
+        }
+        0
+    }
+}
+
+impl<const CHECKED: bool> AnyBook for SameMethod<CHECKED> {
+    const COUNTS_STEPS: bool = true;
+    const FINDS_CHAINS: bool = true;
+
+    fn opened(settings: Settings) -> Self {
+        SameMethod {
+            clock: Clock {
+                t0: settings.t0,
+                b: settings.b,
+                time: settings.t0,
+                n: settings.n,
+            },
+            mounting: settings.mounting,
+            counts: [0; 2 * PLACES],
+            forward: Forest::fresh(),
+            backward: Labelled::fresh(),
+            log: vec![0; LOG_PLACES],
+        }
+    }
+
+    fn link(&mut self, tick: u32, one: u16, other: u16) -> u8 {
+        let number = self.link_number(tick, one, other);
+        if number != 0 {
+            return number;
+        }
+        let one = self.lorry_cell(one);
+        let other = self.lorry_cell(other);
+        self.move_to(tick);
+        let spot = self.spot(self.open_slide());
+        let count = self.counts[spot];
+        let at = 2 * (usize::from(LINKS) * spot + usize::from(count));
+        self.log[at] = one;
+        self.log[at + 1] = other;
+        self.counts[spot] = count + 1;
+        self.forward.unite(one, other);
+        0
+    }
+
+    fn clock(&mut self, tick: u32) -> u8 {
+        if CHECKED && !self.in_order() {
+            return 1;
+        }
+        if self.log.len() < LOG_PLACES {
+            return 6;
+        }
+        if tick < self.clock.time {
+            return 4;
+        }
+        self.move_to(tick);
+        0
+    }
+
+    fn joined(&mut self, one: u16, other: u16) -> JoinedAnswer {
+        if CHECKED && !self.in_order() {
+            return joined_refused(1);
+        }
+        if CELLS as u16 <= one || CELLS as u16 <= other {
+            return joined_refused(3);
+        }
+        let cut = self.place(self.open_slide()) as u8 + 1;
+        let backward_one = self.backward.walk_at(cut, one);
+        let backward_other = self.backward.walk_at(cut, other);
+        let forward_one = self.forward.walk(one);
+        let forward_other = self.forward.walk(other);
+        let in_one_forest =
+            backward_one.root == backward_other.root || forward_one.root == forward_other.root;
+        JoinedAnswer {
+            number: 0,
+            yes: in_one_forest || self.across(cut, one, other),
+            steps: backward_one.steps
+                + backward_other.steps
+                + forward_one.steps
+                + forward_other.steps,
+        }
+    }
+
+    fn chain(&mut self, one: u16, other: u16, lent: &mut [u16]) -> ChainAnswer {
+        if CHECKED && !self.in_order() {
+            return chain_refused(1);
+        }
+        if self.log.len() < LOG_PLACES || lent.len() < CHAIN_PLACES {
+            return chain_refused(6);
+        }
+        if CELLS as u16 <= one || CELLS as u16 <= other {
+            return chain_refused(3);
+        }
+        let links = self.window_links();
+        match links.highest_label(one, other) {
+            None => chain_refused(7),
+            Some(label) => ChainAnswer {
+                newest: self.open_slide() + u64::from(label) - u64::from(self.clock.n),
+                cells: links.write_chain(label, one, other, lent),
+                hold: label - 1,
+                number: 0,
+            },
+        }
+    }
+}
+
+#[cfg(test)]
+mod tests {
+    use super::*;
+
+    /// The number that a clock call gives for a fresh book after an alteration.
+    fn number_after(alter: impl Fn(&mut SameMethod<true>)) -> u8 {
+        let settings = Settings {
+            t0: 0,
+            b: 10,
+            n: 3,
+            mounting: 1,
+        };
+        let mut book = SameMethod::opened(settings);
+        alter(&mut book);
+        book.clock(5)
+    }
+
+    #[test]
+    fn number_1_is_given_for_a_field_outside_its_range() {
+        assert_eq!(number_after(|_| ()), 0);
+        assert_eq!(number_after(|book| book.clock.n = 17), 1);
+        assert_eq!(number_after(|book| book.mounting = 0), 1);
+        assert_eq!(number_after(|book| book.counts[31] = 257), 1);
+        assert_eq!(number_after(|book| book.forward.parent[1023] = 1024), 1);
+        assert_eq!(number_after(|book| book.backward.label[7] = 16), 1);
+    }
+
+    #[test]
+    fn number_1_is_given_for_a_walk_over_10_steps_whatever_the_sizes() {
+        let walk_of = |steps: usize| {
+            number_after(|book| {
+                for cell in 0..steps {
+                    book.backward.forest.parent[cell] = cell as u16 + 1;
+                }
+            })
+        };
+        assert_eq!((walk_of(10), walk_of(11)), (0, 1));
+    }
+
+    #[test]
+    fn number_1_is_given_for_a_circle() {
+        let circle = |book: &mut SameMethod<true>| {
+            book.forward.parent[3] = 4;
+            book.forward.parent[4] = 3;
+        };
+        assert_eq!(number_after(circle), 1);
+    }
+}
