@@ -55,32 +55,64 @@ pub fn walk_at<'a>(parent: &'a [u16], label: &'a [u8], most: u8, cut: u8, cell: 
     Walk { root: at, steps }
 }
 
+// The root alone, for those who count no steps: a number comes back in a register, where a walk goes through memory.
+pub fn root(parent: &[u16], most: u8, cell: u16) -> u16
+    ensures { λ r. ⌜ r ≡ walkOf (now (parent .entry)) most cell .root ⌝ }
+{
+    let mut at = cell;
+    let mut steps: u8 = 0;
+    while steps < most {
+        let next = up(parent, at);
+        if next == at {
+            return at;
+        }
+        at = next;
+        steps += 1;
+    }
+    at
+}
+
+// The root alone, at a cut.
+fn root_at<'a>(parent: &'a [u16], label: &'a [u8], most: u8, cut: u8, cell: u16) -> u16
+    ensures { λ r. ⌜ r ≡ walkAtOf (now (parent .entry)) (now (label .entry)) most cut cell .root ⌝ }
+{
+    let mut at = cell;
+    let mut steps: u8 = 0;
+    while steps < most {
+        let next = up_at(parent, label, cut, at);
+        if next == at {
+            return at;
+        }
+        at = next;
+        steps += 1;
+    }
+    at
+}
+
 // The root of each cell.
 pub fn roots(parent: &[u16], most: u8) -> [u16; 1024]
     ensures { λ r. ⌜ r ≡ rootsOf (now (parent .entry)) most 1024 ⌝ }
 {
-    let mut root = [0u16; 1024];
+    let mut found = [0u16; 1024];
     let mut cell: u16 = 0;
     while cell < 1024 {
-        let w = walk(parent, most, cell);
-        root[cell as usize] = w.root;
+        found[cell as usize] = root(parent, most, cell);
         cell += 1;
     }
-    root
+    found
 }
 
 // The root of each cell at a cut.
 pub fn roots_at<'a>(parent: &'a [u16], label: &'a [u8], most: u8, cut: u8) -> [u16; 1024]
     ensures { λ r. ⌜ r ≡ rootsAtOf (now (parent .entry)) (now (label .entry)) most cut 1024 ⌝ }
 {
-    let mut root = [0u16; 1024];
+    let mut found = [0u16; 1024];
     let mut cell: u16 = 0;
     while cell < 1024 {
-        let w = walk_at(parent, label, most, cut, cell);
-        root[cell as usize] = w.root;
+        found[cell as usize] = root_at(parent, label, most, cut, cell);
         cell += 1;
     }
-    root
+    found
 }
 
 // The label of the cell's step to its parent.

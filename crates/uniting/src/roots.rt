@@ -4,15 +4,15 @@ ghost use Rattle.graph.specs.Forest.{goesUnder};
 ghost use Rattle.forest.specs.Arrays.{sizeIn};
 ghost use Rattle.uniting.specs.United.{under, hangRoots, hangOf};
 use super::Hang;
-use forest::walks::walk;
+use forest::walks::root;
 
 // What a link of the two cells does to the forest.
 pub fn hang<'a>(parent: &'a [u16], size: &'a [u16], most: u8, one: u16, other: u16) -> Hang
     ensures { λ r. ⌜ r ≡ hangOf (now (parent .entry)) (now (size .entry)) most one other ⌝ }
 {
-    let a = walk(parent, most, one);
-    let b = walk(parent, most, other);
-    hang_roots(size, a.root, b.root)
+    let a = root(parent, most, one);
+    let b = root(parent, most, other);
+    hang_roots(size, a, b)
 }
 
 // Of two roots, who hangs under whom.
