@@ -76,6 +76,7 @@ single =
       chain = λ b log chain one other r s p q. both r s (p .answered, p .written) (q .answered, q .written);
       read = λ file. equal;
       write = λ s records out. both;
+      half-word = λ bytes place. equal;
       word = λ bytes place. equal;
       play = λ file m b log r s p q. both r s (p .played, p .logged) (q .played, q .logged);
       of-window = λ b log. equal;

@@ -15,7 +15,7 @@ use Rattle.uniting.specs.declared.Hang.{Hang}
 use Rattle.soundness.specs.Sound.{every, within, soundOf, labelsWithin}
 use Rattle.lists.specs.Listed as lists
 use Rattle.crossing.specs.Across.{JoinedAcross}
-use Rattle.linkfile.specs.Format.{readOf, writeNumber, outputOf, wordAt}
+use Rattle.linkfile.specs.Format.{readOf, writeNumber, outputOf, halfAt, wordAt}
 use Rattle.playing.specs.declared.Played.{Played}
 use Rattle.playing.specs.Play.{Plays, playFrom}
 use Rattle.groups.specs.Groups.{groupsOf}
@@ -90,6 +90,7 @@ pub record Single : Type 0 where
   pub read : (file : List ℕ) → AtMostOne (λ r. r ≡ readOf file)
   pub write : (s : Settings) (records out : List ℕ) →
       AtMostOne {A = ℕ × List ℕ} (λ r. (r .0 ≡ writeNumber s (length records) (length out)) × (r .1 ≡ outputOf s records out))
+  pub half-word : (bytes : List ℕ) (place : ℕ) → AtMostOne (λ r. r ≡ halfAt bytes place)
   pub word : (bytes : List ℕ) (place : ℕ) → AtMostOne (λ r. r ≡ wordAt bytes place)
   -- playing
   pub play : (file : List ℕ) (m : ℕ) (b : Book) (log : List ℕ) →
