@@ -22,11 +22,12 @@ use Rattle.graph.proofs.Cut.{each-map, all-at-least, same-root-at}
 use Rattle.forest.specs.Arrays.{countFrom}
 use Rattle.state.specs.Arrays.{cells, most}
 use Rattle.window.specs.Window.{linksFrom}
+use Rattle.window.proofs.Highest.{chained-highest, highest-below}
 use Rattle.groups.specs.Groups.{groupOf, holdOf, leastHold}
 use Rattle.groups.specs.Trees.{treeOf, leastLabel}
 use Rattle.groups.proofs.Cells.{in-count, count-in, in-those, those-in, those-agree}
 use Rattle.groups.proofs.Labels.{Found, label-top, label-least, label-found}
-use Rattle.groups.proofs.Highest.{highest-least, highest-most, hold-least, hold-most, hold-n}
+use Rattle.groups.proofs.LeastHold.{hold-least, hold-most, hold-n}
 
 -- ---- walks by two parent functions that agree, and what a walk keeps
 
@@ -184,7 +185,7 @@ module _ {n : ℕ} {xs ys : List Labelled} (w : Ordered n xs ys) where
         let other = tree-in root q in
         let top : least ≤ n + 1 = label-top (n + 1) (f .parent) (f .label) tree in
         let joined = one-root-at least a b .0 (uncut a (one .0) (one .1) ∙ sym (uncut b (other .0) (other .1))) in
-        omega (arith, highest-least xs a b (suc n) least (omega arith) joined)
+        omega (arith, chained-highest xs a b (suc n) least (omega arith) joined)
 
     pub tree-hold : leastHold n xs tree ≡ least - 1
     tree-hold = omega (arith, low, high (label-found (n + 1) (f .parent) (f .label) tree))
@@ -199,5 +200,5 @@ module _ {n : ℕ} {xs ys : List Labelled} (w : Ordered n xs ys) where
             let is = tree-in root m in
             let over = in-tree root (parent-below (le-refl 10) (w .ends) c (is .0)) (root-up c ∙ is .1) in
             hold-most n xs (least - 1) m over (λ k. step (sym k))
-            (omega (arith, highest-most xs c p (suc n) least (λ j above k. apart c step j (omega arith) (one-root-at j c p .1 k))))
-            (omega (arith, highest-most xs p c (suc n) least (λ j above k. apart c step j (omega arith) (one-root-at j c p .1 (chained-sym k)))))
+            (omega (arith, highest-below xs c p (suc n) least (λ j above k. apart c step j (omega arith) (one-root-at j c p .1 k))))
+            (omega (arith, highest-below xs p c (suc n) least (λ j above k. apart c step j (omega arith) (one-root-at j c p .1 (chained-sym k)))))

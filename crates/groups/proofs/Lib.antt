@@ -1,8 +1,8 @@
 pub mod Cells
 pub mod Gathering
 pub mod GroupTrees
-pub mod Highest
 pub mod Labels
+pub mod LeastHold
 pub mod Tally
 pub mod Told
 pub mod WindowTrees

@@ -17,7 +17,7 @@ use Rattle.window.specs.Window.{windowLinks}
 use Rattle.groups.specs.declared.Groups.{Groups}
 use Rattle.groups.specs.Groups.{groupOf, groupsOf}
 use Rattle.groups.proofs.Cells.{group-few}
-use Rattle.groups.proofs.Highest.{hold-n}
+use Rattle.groups.proofs.LeastHold.{hold-n}
 use Rattle.listing.specs.Lines.{leads, groupLineIf, linesOf, groupLines, toldLine, toldLines, Small}
 use Rattle.listing.proofs.Printed.{group-line-short}
 

@@ -29,6 +29,7 @@ use Rattle.state.specs.Arrays.{cells}
 use Rattle.state.specs.Numbers.{firstOf, unless, has, areCells}
 use Rattle.joined.specs.Joined.{joinedOf}
 use Rattle.window.specs.Window.{windowLinks, linksFrom}
+use Rattle.window.proofs.Highest.{chained-highest, highest-chained, highest-most}
 use Rattle.trail.specs.Chain.{ChainOutcome, chainPlaces, labelOf, chainCells, chainNumber, chainBy, chainOf}
 use Rattle.promises.specs.History.{clock, History, clockIn, openSlideIn, windowOf, linksSince, numberIn, added, addedBy}
 use Rattle.promises.specs.Panel.{ours, State, stateOf, gives, givesChain}
@@ -41,7 +42,6 @@ use Rattle.promises.proofs.NumbersAgree.{itself}
 use Rattle.promises.proofs.InOrder.{agrees-in-order}
 use Rattle.promises.proofs.KeptByTime.{slide-then}
 use Rattle.promises.proofs.Keeps.{step, keeps}
-use Rattle.promises.proofs.Highest.{highest-chained, highest-most, highest-within}
 use Rattle.promises.proofs.Closings.{closed, closed-inside, closed-now, closed-fewer, closed-since}
 use Rattle.promises.proofs.Window.{none-above, book-window, window-book}
 use Rattle.promises.proofs.JoinedIs.{joined-window}
@@ -70,7 +70,7 @@ module _ {h : History} {s : State} (agrees : Agrees h s) (one other : ℕ) where
   label-suc l = omega arith
 
   label-held : 0 < label → Chained (linksFrom label held) one other
-  label-held = highest-chained held one other (suc (s .book .clock .n))
+  label-held l = highest-chained held one other (suc (s .book .clock .n)) label l (le-refl label)
 
   -- the links from it on are those of the window as many closings later, less one
   held-closed : 0 < label → Relinks (linksFrom label held) (closed h (label - 1))
@@ -85,7 +85,7 @@ module _ {h : History} {s : State} (agrees : Agrees h s) (one other : ℕ) where
       chained-relink (closed-fewer (agrees .sensible) {c = label - 1} (omega arith)) (chained-relink (held-closed some) (label-held some))
 
   closed-label : (c : ℕ) → c ≤ h .settings .n → Chained (closed h c) one other → c < label
-  closed-label c le x = highest-most held one other _ (suc c) (omega (arith, n-is)) (chained-relink (window-book agrees c) x)
+  closed-label c le x = chained-highest held one other _ (suc c) (omega (arith, n-is)) (chained-relink (window-book agrees c) x)
 
   -- after n closings no link is left
   none-left : (c : ℕ) → h .settings .n ≤ c → Chained (closed h c) one other → one ≡ other
@@ -99,7 +99,7 @@ module _ {h : History} {s : State} (agrees : Agrees h s) (one other : ℕ) where
   -- a cell and itself are chained with no link at all
   label-itself : one ≡ other → label ≡ suc (h .settings .n)
   label-itself e =
-      omega (arith, n-is, highest-within held one other (suc (s .book .clock .n)), closed-label (h .settings .n) (le-refl _) (same e))
+      omega (arith, n-is, highest-most held one other (suc (s .book .clock .n)), closed-label (h .settings .n) (le-refl _) (same e))
 
   module _ (apart : one ≡ other → ⊥) where
     -- two different cells stay chained for fewer closings than the label says

@@ -7,7 +7,6 @@ pub mod Counts
 pub mod Fakes
 pub mod FilesRefused
 pub mod Forests
-pub mod Highest
 pub mod InOrder
 pub mod JoinedIs
 pub mod Keeps

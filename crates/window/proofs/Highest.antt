@@ -9,7 +9,7 @@ use mathlib.Core.List.{List, [], _∷_, map}
 use mathlib.Core.Logic.{_↔_, ⊎-elim}
 use native.Mathlib.Omega.{arith}
 use native.Mathlib.Nat.{le-refl, le-antisymm, eq-or-lt-of-le}
-use native.Mathlib.Decide.{decLt}
+use native.Mathlib.Decide.{decLe, decLt}
 use borrow.Author.Tests.{lt-ltb, le-ltb}
 use Rattle.graph.specs.Link.{Linked, here, there, Chained, same, chains}
 use Rattle.graph.specs.Forest.{Labelled, atLeast}
@@ -40,7 +40,8 @@ module _ (xs : List Labelled) (a b : ℕ) where
   pub chained-lower : {i j : ℕ} → i ≤ j → Chained (linksFrom j xs) a b → Chained (linksFrom i xs) a b
   chained-lower h = chained-relink (λ x y. linked-lower xs h)
 
-  chained-highest : (j i : ℕ) → i ≤ j → Chained (linksFrom i xs) a b → i ≤ highest j xs a b
+  -- a label from which on links chain the two is not above the highest
+  pub chained-highest : (j i : ℕ) → i ≤ j → Chained (linksFrom i xs) a b → i ≤ highest j xs a b
   unfolding highest
   chained-highest zero i h x = h
   chained-highest (suc j) i h x = go (chains (linksFrom (suc j) xs) a b) refl (λ l. chained-highest j i l x)
@@ -49,7 +50,8 @@ module _ (xs : List Labelled) (a b : ℕ) where
       go true e on = h
       go false e on = ⊎-elim (λ q. absurd (chains-false _ a b e (rw q at x))) (λ l. on (omega arith)) (eq-or-lt-of-le h)
 
-  highest-chained : (j i : ℕ) → 1 ≤ i → i ≤ highest j xs a b → Chained (linksFrom i xs) a b
+  -- from the highest label on, and from any below it, links chain the two
+  pub highest-chained : (j i : ℕ) → 1 ≤ i → i ≤ highest j xs a b → Chained (linksFrom i xs) a b
   unfolding highest
   highest-chained zero i h l = absurd (omega arith)
   highest-chained (suc j) i h l = go (chains (linksFrom (suc j) xs) a b) refl (highest-chained j i h) l
@@ -71,6 +73,13 @@ module _ (xs : List Labelled) (a b : ℕ) where
       go : (t : Bool) → highest j xs a b ≤ j → cond t (suc j) (highest j xs a b) ≤ suc j
       go true h = omega arith
       go false h = omega arith
+
+  -- where links from no label above m on chain the two, the highest is not above m
+  pub highest-below : (j m : ℕ) → ((i : ℕ) → m < i → Chained (linksFrom i xs) a b → ⊥) → highest j xs a b ≤ m
+  highest-below j m apart = elim (decLe (highest j xs a b) m) [
+    | yes h ↦ h
+    | no h ↦ absurd (apart (highest j xs a b) (omega arith) (highest-chained j _ (omega arith) (le-refl _)))
+  ]
 
 -- a cell and itself are chained with no link at all
 pub highest-same : (xs : List Labelled) (a j : ℕ) → highest j xs a a ≡ j

@@ -1,34 +1,10 @@
--- The largest label from which on links chain two cells (`highest`), and the least hold over the pairs of a list: each is
--- bounded from both sides by what is known of single labels and single pairs.
-use Prim.Native.Nat.{ℕ, zero, suc, _≤_, _<_}
+-- The least hold over the pairs of a list: bounded from both sides by what is known of single pairs.
+use Prim.Native.Nat.{ℕ, _≤_}
 use mathlib.Core.Path.{_≡_, refl, sym, _∙_}
 use mathlib.Core.List.{List, [], _∷_, List·Memᴰ, List·Memᴰ·head, List·Memᴰ·tail}
 use native.Mathlib.Omega.{arith}
-use native.Mathlib.Decide.{decLe}
-use native.Mathlib.Nat.{le-refl}
-use Rattle.graph.specs.Link.{Chained}
 use Rattle.graph.specs.Forest.{Labelled}
-use Rattle.window.specs.Window.{linksFrom, highest}
-use Rattle.window.proofs.Highest as window
-use Rattle.window.proofs.Highest.{highest-exactly}
 use Rattle.groups.specs.Groups.{holdOf, leastWith, leastHold}
-
-module _ (xs : List Labelled) (a b : ℕ) where
-  pub highest-least : (top j : ℕ) → j ≤ top → Chained (linksFrom j xs) a b → j ≤ highest top xs a b
-  highest-least top zero h chained = omega arith
-  highest-least top (suc j) h chained = highest-exactly xs a b top (suc j) (omega arith) h .0 chained
-
-  pub highest-most : (top m : ℕ) → ((j : ℕ) → m < j → Chained (linksFrom j xs) a b → ⊥) → highest top xs a b ≤ m
-  highest-most top m apart =
-      let label : ℕ = highest top xs a b in
-      elim (decLe label m) [
-        | yes h ↦ h
-        | no h ↦
-            let exactly = highest-exactly xs a b top label (omega arith) (window.highest-most xs a b top) in
-            absurd (apart label (omega arith) (exactly .1 (le-refl label)))
-      ]
-
--- ---- the least hold over pairs
 
 module _ (n : ℕ) (xs : List Labelled) (k : ℕ) where
   with-least : (c : ℕ) (ds : List ℕ) → k ≤ n → ((d : ℕ) → List·Memᴰ d ds → k ≤ holdOf n xs c d) → k ≤ leastWith n xs c ds
