@@ -10,8 +10,12 @@ use native.Mathlib.Omega.{arith}
 use borrow.Author.Tests.{eqb-true, eqb-false, not-true, not-false}
 use lib.Dec.{eqb}
 use lib.ListN.{length, getD, replicate}
-use Rattle.crossing.specs.Across.{Across, here, by-backward, by-forward, JoinedAcross}
+use Rattle.crossing.specs.Across.{Across, here, by-backward, by-forward, Keyed, JoinedAcross}
 use Rattle.crossing.specs.Marks.{Met, Crossed, Begins}
+
+-- a cell's group has a mark
+pub keyed-inside : {keys : List ℕ} {c group : ℕ} → Keyed keys → c < length keys → group ≡ getD keys c 0 → group < length keys
+keyed-inside {c = c} k h e = rw e (k .inside c h)
 
 -- no group is marked yet
 none-marked : (n group : ℕ) → _≡_ {A = ℕ} (getD (replicate n 0) group 0) 0

@@ -4,16 +4,16 @@ use borrow.Author.Needs.{needs}
 use Prim.Native.Nat.{_<_}
 use native.Mathlib.Omega.{arith}
 use Rattle.lists.proofs.Listing.{none-listed, same-bound}
-use Rattle.crossing.proofs.Joined.{begins-unmarked, mark-answers}
+use Rattle.crossing.proofs.Joined.{keyed-inside, begins-unmarked, mark-answers}
 use Rattle.crossing.proofs.joined_across.Statement.{statement}
 use Rattle.crossing.proofs.joined_across.Tie as tie
 
 -- the two cells' groups have marks
 start-inside : (c : tie.After-number-at) → c .number-at .result < 1024
-start-inside c = let given = c .before .before in omega (arith, c .number-at .ensures, given .pre .0 .inside (given .args .one) (omega arith))
+start-inside c = omega (arith, keyed-inside (c .before .before .pre .0) (omega arith) (c .number-at .ensures))
 
 asked-inside : (c : tie.After-number-at2) → c .number-at2 .result < 1024
-asked-inside c = let given = c .before .before .before .before in omega (arith, c .number-at2 .ensures, given .pre .0 .inside (given .args .other) (omega arith))
+asked-inside c = omega (arith, keyed-inside (c .before .before .before .before .pre .0) (omega arith) (c .number-at2 .ensures))
 
 list-entries-requires : tie.Need-list-entries-requires
 list-entries-requires c κs =
