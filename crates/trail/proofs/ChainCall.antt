@@ -105,7 +105,7 @@ module _ {b : Book} {log chain : List ℕ} {one other : ℕ} (a : Answerable b l
     pub unjoined : {r : ChainAnswer} → j ≡ 0 → r ≡ refusal 7 → GivesChain (chainOf b log chain one other) r chain
     unjoined e same = refuses b log chain one other (left ∙ fails 6 _ (le-ltb 0 (labelOf b log one other) (omega arith))) same refl
 
-    pub label-few : j ≤ suc (b .clock .n)
+    label-few : j ≤ suc (b .clock .n)
     label-few = rw is (highest-most (windowLinks b log) one other (suc (b .clock .n)))
 
     module _ (joined : 0 < j) where

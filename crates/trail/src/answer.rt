@@ -2,7 +2,7 @@
 use super::ChainAnswer;
 use state::Book;
 ghost use mathlib.Core.Path.{_≡_};
-ghost use Prim.Native.Nat.{suc, _≤_};
+ghost use Prim.Native.Nat.{suc, _+_, _-_, _≤_, _<_};
 ghost use lib.ListN.{length, take};
 ghost use Rattle.graph.specs.Trail.{trailOf};
 ghost use Rattle.window.specs.Window.{highest};
@@ -42,8 +42,19 @@ pub fn answer(book: Book, log: &[u16], one: u16, other: u16, chain: &mut [u16]) 
     if 1024 < cells {
         return refused(8);
     }
+    let k = slides::open_slide(book.clock);
+    answered(k, n, label, cells)
+}
+
+// The answer by the open slide k and the label: L is k + label - n, and the hold one less than the label.
+fn answered(k: u64, n: u8, label: u8, cells: u16) -> ChainAnswer
+    requires slide { ⌜ k < 4294967296 ⌝ }
+    requires begun { ⌜ n ≤ k + label ⌝ }
+    requires joined { ⌜ 1 ≤ label ⌝ }
+    ensures { λ r. ⌜ r ≡ record { newest = k + label - n; cells = cells; hold = label - 1; number = 0 } ⌝ }
+{
     ChainAnswer {
-        newest: slides::open_slide(book.clock) + label as u64 - n as u64,
+        newest: k + label as u64 - n as u64,
         cells,
         hold: label - 1,
         number: 0,

@@ -1,13 +1,13 @@
 -- `trail::answer::answer` meets its contract: the window's links are gathered, the label is theirs, and the trail over those
 -- from the label on is the chain (proofs/ChainCall.antt).
-use Prim.Native.Nat.{_≤_, _<_}
-use mathlib.Core.Path.{_≡_, refl}
+use Prim.Native.Nat.{_<_}
+use mathlib.Core.Path.{_≡_}
 use native.Mathlib.Omega.{arith}
 use native.Mathlib.Nat.{pos-of-ne-zero}
 use Rattle.slides.proofs.Slides.{slide-below}
 use Rattle.state.proofs.Checks.{readable}
 use Rattle.trail.specs.Chain.{labelOf}
-use Rattle.trail.proofs.ChainCall.{unjoined, label-few, too-long, answers, newest-is, gathered, label-is, put-long, room, asked, given}
+use Rattle.trail.proofs.ChainCall.{unjoined, too-long, answers, newest-is, gathered, label-is, put-long, room, asked, given}
 use borrow.Author.Needs.{needs}
 use Rattle.trail.proofs.answer.answer.Statement.{statement}
 use Rattle.trail.proofs.answer.answer.Tie as tie
@@ -19,9 +19,6 @@ start c = c .before .before .before .before .before .before
 -- the label
 label : (c : tie.After-label-of) → (let args = start (c .before .before .before .before) .args in c .label-of .result ≡ labelOf (args .book) (args .log .now) (args .one) (args .other))
 label c = let d = c .before .before .before .before in label-is (start d .pre) (d .gather .ensures) (c .label-of .ensures)
-
-n-most : (c : tie.After-label-of) → start (c .before .before .before .before) .args .book .clock .n ≤ 16
-n-most c = gathered (start (c .before .before .before .before) .pre) (c .before .before .before .before .gather .ensures) .n-most
 
 joined : (c : tie.Else1) → 0 < c .before .label-of .result
 joined c = pos-of-ne-zero (c .if1 .left)
@@ -71,36 +68,27 @@ returns-2 c =
 open-slide-requires : tie.Need-open-slide-requires
 open-slide-requires c κs = search needs
 
-cast-t29 : tie.Need-cast-t29
-cast-t29 c = search needs
-
-add-t30 : tie.Need-add-t30
-add-t30 c =
+answered-requires : tie.Need-answered-requires
+answered-requires c κs =
     let d = c .before .before .before .before .before .before .before .before .before .before in
     let entry = start (d .before .before .before .before) in
     let clock = entry .args .book .clock in
-    omega (arith, c .open-slide .ensures, slide-below clock (clock .time) (omega (arith, entry .good)), label-few (entry .pre) (label d), n-most d)
-
-cast-t31 : tie.Need-cast-t31
-cast-t31 c = omega (arith, n-most (c .before .before .before .before .before .before .before .before .before .before))
-
-sub-t32 : tie.Need-sub-t32
-sub-t32 c =
-    let d = c .before .before .before .before .before .before .before .before .before .before in
-    omega (arith, c .open-slide .ensures, newest-is (start (d .before .before .before .before) .pre) (label d) (joined (c .before .before .before .before .before .before .before .before .before)))
-
-sub-t33 : tie.Need-sub-t33
-sub-t33 c = search needs
+    let slide = c .open-slide .ensures in
+    let some = joined (c .before .before .before .before .before .before .before .before .before) in (
+      omega (arith, slide, slide-below clock (clock .time) (omega (arith, entry .good))),
+      (omega (arith, slide, newest-is (entry .pre) (label d) some), some),
+    )
 
 same-length-2 : tie.Need-same-length-2
 same-length-2 c = search needs
 
 returns-3 : tie.Need-returns-3
 returns-3 c =
-    let d = c .before .before .before .before .before .before .before .before .before .before in
+    let a = c .before in
+    let d = a .before .before .before .before .before .before .before .before .before .before in
     let g = d .before .before .before .before in
-    answers (start g .pre) (label d) (joined (c .before .before .before .before .before .before .before .before .before)) (given (start g .pre) (g .gather .ensures) (label d) (c .before .before .before .before .trail-from .ensures))
-    (c .before .if2 .left) (c .open-slide .ensures) refl
+    answers (start g .pre) (label d) (joined (a .before .before .before .before .before .before .before .before .before)) (given (start g .pre) (g .gather .ensures) (label d) (a .before .before .before .before .trail-from .ensures))
+    (a .before .if2 .left) (a .open-slide .ensures) (c .answered .ensures)
 
 pub answer-spec : {M : Type 1} → statement M
 answer-spec =
@@ -118,10 +106,6 @@ answer-spec =
     same-length
     returns-2
     open-slide-requires
-    cast-t29
-    add-t30
-    cast-t31
-    sub-t32
-    sub-t33
+    answered-requires
     same-length-2
     returns-3)
