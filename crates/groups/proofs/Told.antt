@@ -12,8 +12,9 @@ use Rattle.forest.specs.Arrays.{parentIn, labelIn, rootsOf}
 use Rattle.forest.proofs.Fill.{length-each, getD-each}
 use Rattle.forest.proofs.Held.{root-below}
 use Rattle.state.specs.Arrays.{cells, most}
+use Rattle.groups.specs.declared.trees.Tallies.{Tallies}
 use Rattle.groups.specs.Groups.{smallest}
-use Rattle.groups.specs.Trees.{rootIn, Roots, treeOf, ofTrees, leastLabel, atRoot}
+use Rattle.groups.specs.Trees.{rootIn, Roots, treeOf, ofTrees, leastLabel, talliesOf, atRoot}
 use Rattle.groups.proofs.Cells.{those-agree}
 use Rattle.groups.proofs.Labels.{Found, label-found}
 
@@ -23,13 +24,11 @@ pub record Grown (ps ls : List ℕ) : Type 0 where
   pub inside : (c : ℕ) → c < cells → parentIn ps c < cells
   pub from-one : (c : ℕ) → ¬ (parentIn ps c ≡ c) → 1 ≤ labelIn ls c
 
--- the arrays of the passes
-pub record Told (n : ℕ) (ps ls roots firsts counts leasts : List ℕ) : Type 0 where
+-- what the passes gave
+pub record Told (n : ℕ) (ps ls roots : List ℕ) (t : Tallies) : Type 0 where
   pub grown : Grown ps ls
   pub roots-are : roots ≡ rootsOf ps most cells
-  pub firsts-are : firsts ≡ ofTrees smallest (rootIn roots)
-  pub counts-are : counts ≡ ofTrees length (rootIn roots)
-  pub leasts-are : leasts ≡ ofTrees (leastLabel (n + 1) (parentIn ps) (labelIn ls)) (rootIn roots)
+  pub tallies-are : t ≡ talliesOf roots ps ls (n + 1)
 
 -- a cell's root
 module _ {ps ls : List ℕ} (g : Grown ps ls) where
@@ -45,7 +44,7 @@ module _ {ps ls : List ℕ} (g : Grown ps ls) where
     | no h ↦ rw (List·getD-eq-default roots 0 {n = c} (omega (arith, ap length e, length-each root cells))) (omega arith)
   ]
 
-module _ {n : ℕ} {ps ls roots firsts counts leasts : List ℕ} (t : Told n ps ls roots firsts counts leasts) {c : ℕ} (h : c < cells) where
+module _ {n : ℕ} {ps ls roots : List ℕ} {t : Tallies} (told : Told n ps ls roots t) {c : ℕ} (h : c < cells) where
   abbrev rootOf : ℕ → ℕ
   rootOf d = climb (parentIn ps) most d .root
 
@@ -55,25 +54,28 @@ module _ {n : ℕ} {ps ls roots firsts counts leasts : List ℕ} (t : Told n ps 
   -- at the cell's root stands what its tree gives
   at-root : (f : List ℕ → ℕ) → atRoot roots (ofTrees f (rootIn roots)) c ≡ f tree
   at-root f =
-      getD-each (λ r. f (treeOf (rootIn roots) r)) cells (rootIn roots c) 0 (roots-below (t .grown) (t .roots-are) c)
+      getD-each (λ r. f (treeOf (rootIn roots) r)) cells (rootIn roots c) 0 (roots-below (told .grown) (told .roots-are) c)
       ∙ ap f (those-agree _ _ 0 cells (λ d _ k. same d (omega arith)))
     where
       same : (d : ℕ) → d < cells → eqb (rootIn roots d) (rootIn roots c) ≡ eqb (rootOf d) (rootOf c)
-      same d k = rw (root-is (t .grown) (t .roots-are) d k, root-is (t .grown) (t .roots-are) c h)
+      same d k = rw (root-is (told .grown) (told .roots-are) d k, root-is (told .grown) (told .roots-are) c h)
 
-  pub first-at : atRoot roots firsts c ≡ smallest tree
-  first-at = ap (λ a. atRoot roots a c) (t .firsts-are) ∙ at-root smallest
+  pub first-at : atRoot roots (t .first) c ≡ smallest tree
+  unfolding talliesOf
+  first-at = ap (λ a. atRoot roots (a .first) c) (told .tallies-are) ∙ at-root smallest
 
-  pub count-at : atRoot roots counts c ≡ length tree
-  count-at = ap (λ a. atRoot roots a c) (t .counts-are) ∙ at-root length
+  pub count-at : atRoot roots (t .count) c ≡ length tree
+  unfolding talliesOf
+  count-at = ap (λ a. atRoot roots (a .count) c) (told .tallies-are) ∙ at-root length
 
-  pub least-at : atRoot roots leasts c ≡ leastLabel (n + 1) (parentIn ps) (labelIn ls) tree
-  least-at = ap (λ a. atRoot roots a c) (t .leasts-are) ∙ at-root (leastLabel (n + 1) (parentIn ps) (labelIn ls))
+  pub least-at : atRoot roots (t .least) c ≡ leastLabel (n + 1) (parentIn ps) (labelIn ls) tree
+  unfolding talliesOf
+  least-at = ap (λ a. atRoot roots (a .least) c) (told .tallies-are) ∙ at-root (leastLabel (n + 1) (parentIn ps) (labelIn ls))
 
   -- a label of a step, or n + 1
-  pub least-positive : 1 ≤ atRoot roots leasts c
+  pub least-positive : 1 ≤ atRoot roots (t .least) c
   least-positive = rw least-at (from-one (label-found (n + 1) (parentIn ps) (labelIn ls) tree))
     where
       from-one : {m : ℕ} → Found (n + 1) (parentIn ps) (labelIn ls) tree m → 1 ≤ m
       from-one (inl e) = omega arith
-      from-one (inr (d, _, step, e)) = omega (arith, t .grown .from-one d step)
+      from-one (inr (d, _, step, e)) = omega (arith, told .grown .from-one d step)

@@ -17,6 +17,7 @@ use Rattle.window.proofs.Falling.{falls-reverse}
 use Rattle.window.proofs.WindowLinks.{window-ends, window-labels, window-falls}
 use Rattle.window.proofs.WindowForest.{chained-reverse}
 use Rattle.groups.specs.declared.trees.WindowForest.{WindowForest}
+use Rattle.groups.specs.declared.trees.Tallies.{Tallies}
 use Rattle.groups.specs.Groups.{smallest, groupOf, leastHold, groupsOf}
 use Rattle.groups.specs.Trees.{windowArrays, windowForestOf, treeOf, leastLabel, groupsAt}
 use Rattle.groups.proofs.Cells.{of-cells-agree}
@@ -80,13 +81,13 @@ module _ (b : Book) (log : List ℕ) where
         ap₂ (λ p l. leastLabel (b .clock .n + 1) p l (tree p c) - 1) parents-are labels-are
         ∙ sym (ap (leastHold (b .clock .n) (windowLinks b log)) (group-is-tree ordered c) ∙ tree-hold ordered _)
 
-    pub forest-groups : {roots firsts counts leasts : List ℕ} → Told (b .clock .n) (f .parent) (f .label) roots firsts counts leasts
-        → groupsAt roots firsts counts leasts (f .count) ≡ groupsOf b log
+    pub forest-groups : {roots : List ℕ} {t : Tallies} → Told (b .clock .n) (f .parent) (f .label) roots t
+        → groupsAt roots t (f .count) ≡ groupsOf b log
     unfolding groupsAt groupsOf windowForestOf
-    forest-groups t = λ i.
+    forest-groups told = λ i.
         record {
-          first = of-cells-agree _ _ (λ c h. first-at t h ∙ ap smallest (tree-is c)) i;
-          count = of-cells-agree _ _ (λ c h. count-at t h ∙ ap length (tree-is c)) i;
-          hold = of-cells-agree _ _ (λ c h. ap (λ l. l - 1) (least-at t h) ∙ hold-is c) i;
+          first = of-cells-agree _ _ (λ c h. first-at told h ∙ ap smallest (tree-is c)) i;
+          count = of-cells-agree _ _ (λ c h. count-at told h ∙ ap length (tree-is c)) i;
+          hold = of-cells-agree _ _ (λ c h. ap (λ l. l - 1) (least-at told h) ∙ hold-is c) i;
           links = is i .count;
         }

@@ -5,13 +5,14 @@ use mathlib.Core.Bool.{cond}
 use mathlib.Core.List.{List, [], _∷_, reverse}
 use lib.Dec.{eqb}
 use lib.ListN.{length, getD}
-use Rattle.forest.specs.Arrays.{countFrom}
+use Rattle.forest.specs.Arrays.{countFrom, parentIn, labelIn}
 use Rattle.state.specs.Arrays.{Arrays, cells, freshArrays, unitedAll}
 use Rattle.state.specs.declared.Book.{Book}
 use Rattle.window.specs.Window.{windowLinks}
 use Rattle.groups.specs.declared.trees.WindowForest.{WindowForest}
+use Rattle.groups.specs.declared.trees.Tallies.{Tallies}
 use Rattle.groups.specs.declared.Groups.{Groups}
-use Rattle.groups.specs.Groups.{those, ofCells}
+use Rattle.groups.specs.Groups.{those, smallest, ofCells}
 
 -- the window's links united, newest slide first
 abbrev pub windowArrays : Book → List ℕ → Arrays
@@ -46,6 +47,15 @@ unfoldable pub leastLabel : ℕ → (ℕ → ℕ) → (ℕ → ℕ) → List ℕ
 leastLabel top parent label [] = top
 leastLabel top parent label (c ∷ cs) = lower c (parent c) (label c) (leastLabel top parent label cs)
 
+-- of each root's tree its smallest cell, number of cells and smallest label
+unfoldable pub talliesOf : List ℕ → List ℕ → List ℕ → ℕ → Tallies
+talliesOf roots ps ls top =
+    record {
+      first = ofTrees smallest (rootIn roots);
+      count = ofTrees length (rootIn roots);
+      least = ofTrees (leastLabel top (parentIn ps) (labelIn ls)) (rootIn roots);
+    }
+
 -- what a list tells at the root of a cell
 abbrev pub atRoot : List ℕ → List ℕ → ℕ → ℕ
 atRoot roots told c = getD told (rootIn roots c) 0
@@ -55,11 +65,11 @@ abbrev pub FromOne : List ℕ → List ℕ → Type 0
 FromOne roots told = (c : ℕ) → c < cells → 1 ≤ atRoot roots told c
 
 -- of each cell what stands at its root; the hold is the smallest label, less 1
-unfoldable pub groupsAt : List ℕ → List ℕ → List ℕ → List ℕ → ℕ → Groups
-groupsAt roots firsts counts leasts links =
+unfoldable pub groupsAt : List ℕ → Tallies → ℕ → Groups
+groupsAt roots t links =
     record {
-      first = ofCells (atRoot roots firsts);
-      count = ofCells (atRoot roots counts);
-      hold = ofCells (λ c. atRoot roots leasts c - 1);
+      first = ofCells (atRoot roots (t .first));
+      count = ofCells (atRoot roots (t .count));
+      hold = ofCells (λ c. atRoot roots (t .least) c - 1);
       links = links;
     }

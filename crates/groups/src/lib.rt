@@ -23,8 +23,6 @@ pub fn of_window(book: Book, log: &[u16]) -> Groups
 {
     let forest = trees::window_forest(book, log);
     let root = forest::walks::roots(&forest.parent, 10);
-    let first = trees::smallest_cells(&root);
-    let count = trees::cell_counts(&root);
-    let least = trees::least_labels(&root, &forest.parent, &forest.label, book.clock.n + 1);
-    trees::at_roots(&root, &first, &count, &least, forest.count)
+    let tallies = trees::tally(&root, &forest.parent, &forest.label, book.clock.n + 1);
+    trees::at_roots(&root, tallies, forest.count)
 }

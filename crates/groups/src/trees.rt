@@ -1,13 +1,11 @@
 // The groups of a window, read off the forest of its links: a group is a tree, and its least hold the smallest label of a parent
-// step in it, less 1. Each pass goes from the last cell to the first and stores at the cell's root.
+// step in it, less 1. A pass from the last cell to the first stores at each cell's root, and another fetches it from there.
 use super::Groups;
 use state::Book;
 ghost use mathlib.Core.Path.{_≡_};
 ghost use lib.ListN.{length};
-ghost use Rattle.forest.specs.Arrays.{parentIn, labelIn};
 ghost use Rattle.state.specs.Log.{Readable};
-ghost use Rattle.groups.specs.Groups.{smallest};
-ghost use Rattle.groups.specs.Trees.{Roots, FromOne, rootIn, ofTrees, lower, leastLabel, groupsAt, windowForestOf};
+ghost use Rattle.groups.specs.Trees.{windowForestOf, Roots, lower, talliesOf, FromOne, groupsAt};
 
 // The forest of a window's links, and how many links there are.
 pub struct WindowForest {
@@ -44,36 +42,6 @@ pub fn window_forest(book: Book, log: &[u16]) -> WindowForest
     }
 }
 
-// The smallest cell of each root's tree: the last to be stored.
-pub fn smallest_cells(root: &[u16; 1024]) -> [u16; 1024]
-    requires { ⌜ Roots (now root) ⌝ }
-    ensures { λ r. ⌜ r ≡ ofTrees smallest (rootIn (now (root .entry))) ⌝ }
-{
-    let mut first = [0u16; 1024];
-    let mut cell: u16 = 1024;
-    while 0 < cell {
-        cell -= 1;
-        let r = root[cell as usize] as usize;
-        first[r] = cell;
-    }
-    first
-}
-
-// The number of cells of each root's tree.
-pub fn cell_counts(root: &[u16; 1024]) -> [u16; 1024]
-    requires { ⌜ Roots (now root) ⌝ }
-    ensures { λ r. ⌜ r ≡ ofTrees length (rootIn (now (root .entry))) ⌝ }
-{
-    let mut count = [0u16; 1024];
-    let mut cell: u16 = 1024;
-    while 0 < cell {
-        cell -= 1;
-        let r = root[cell as usize] as usize;
-        count[r] = count[r] + 1;
-    }
-    count
-}
-
 // The label of the cell's step, if that is smaller; a root has no step.
 fn lower_label(cell: u16, parent: u16, label: u8, least: u8) -> u8
     ensures { λ r. ⌜ r ≡ lower cell parent label least ⌝ }
@@ -84,54 +52,63 @@ fn lower_label(cell: u16, parent: u16, label: u8, least: u8) -> u8
     if label < least { label } else { least }
 }
 
-// The smallest label of a parent step in each root's tree; `top` where there is none.
-pub fn least_labels<'a>(
+// Of each root's tree: its smallest cell, how many cells it has, and the smallest label of a parent step in it.
+pub struct Tallies {
+    pub first: [u16; 1024],
+    pub count: [u16; 1024],
+    pub least: [u8; 1024],
+}
+
+// The tallies, in one pass. The cell that is stored last for a tree is its smallest; `top` stands where there is no step.
+pub fn tally<'a>(
     root: &'a [u16; 1024],
     parent: &'a [u16; 1024],
     label: &'a [u8; 1024],
     top: u8,
-) -> [u8; 1024]
+) -> Tallies
     requires { ⌜ Roots (now root) × (length (now parent) ≡ 1024) ⌝ }
-    ensures { λ r. ⌜ r ≡ ofTrees (leastLabel top (parentIn (now (parent .entry))) (labelIn (now (label .entry)))) (rootIn (now (root .entry))) ⌝ }
+    ensures { λ r. ⌜ r ≡ talliesOf (now (root .entry)) (now (parent .entry)) (now (label .entry)) top ⌝ }
 {
+    let mut first = [0u16; 1024];
+    let mut count = [0u16; 1024];
     let mut least = [top; 1024];
     let mut cell: u16 = 1024;
     while 0 < cell {
         cell -= 1;
         let at = cell as usize;
         let r = root[at] as usize;
+        first[r] = cell;
+        count[r] = count[r] + 1;
         least[r] = lower_label(cell, parent[at], label[at], least[r]);
     }
-    least
+    Tallies {
+        first,
+        count,
+        least,
+    }
 }
 
 // Of each cell, what stands at its root.
-pub fn at_roots<'a>(
-    root: &'a [u16; 1024],
-    first: &'a [u16; 1024],
-    count: &'a [u16; 1024],
-    least: &'a [u8; 1024],
-    links: usize,
-) -> Groups
-    requires { ⌜ Roots (now root) × FromOne (now root) (now least) ⌝ }
-    ensures { λ r. ⌜ r ≡ groupsAt (now (root .entry)) (now (first .entry)) (now (count .entry)) (now (least .entry)) links ⌝ }
+pub fn at_roots(root: &[u16; 1024], tallies: Tallies, links: usize) -> Groups
+    requires { ⌜ Roots (now root) × FromOne (now root) (tallies .least) ⌝ }
+    ensures { λ r. ⌜ r ≡ groupsAt (now (root .entry)) tallies links ⌝ }
 {
-    let mut firsts = [0u16; 1024];
-    let mut counts = [0u16; 1024];
-    let mut holds = [0u8; 1024];
+    let mut first = [0u16; 1024];
+    let mut count = [0u16; 1024];
+    let mut hold = [0u8; 1024];
     let mut cell: u16 = 0;
     while cell < 1024 {
         let at = cell as usize;
         let r = root[at] as usize;
-        firsts[at] = first[r];
-        counts[at] = count[r];
-        holds[at] = least[r] - 1;
+        first[at] = tallies.first[r];
+        count[at] = tallies.count[r];
+        hold[at] = tallies.least[r] - 1;
         cell += 1;
     }
     Groups {
-        first: firsts,
-        count: counts,
-        hold: holds,
+        first,
+        count,
+        hold,
         links,
     }
 }

@@ -11,13 +11,13 @@ use Rattle.groups.proofs.trees.at_roots.Statement.{statement}
 use Rattle.groups.proofs.trees.at_roots.Tie as tie
 
 abbrev Inv-loop : tie.InvT-loop
-Inv-loop root first count least links firsts₀ counts₀ holds₀ cell₀ firsts counts holds cell =
-    Filled (atRoot root first) cells firsts cell
-    × Filled (atRoot root count) cells counts cell
-    × Filled (λ c. atRoot root least c - 1) cells holds cell
+Inv-loop root links tallies first₀ count₀ hold₀ cell₀ first count hold cell =
+    Filled (atRoot root (tallies .first)) cells first cell
+    × Filled (atRoot root (tallies .count)) cells count cell
+    × Filled (λ c. atRoot root (tallies .least) c - 1) cells hold cell
 
 abbrev μ-loop : tie.MeasureT-loop
-μ-loop root first count least links firsts₀ counts₀ holds₀ cell₀ firsts counts holds cell = 1024 - cell
+μ-loop root links tallies first₀ count₀ hold₀ cell₀ first count hold cell = 1024 - cell
 
 loop-holds : tie.Need-loop-holds Inv-loop μ-loop
 loop-holds c = (none refl, none refl, none refl)
@@ -41,40 +41,40 @@ root-below c = c .before .before .pre .0 (c .before .loop .cell)
 cast-r : tie.Need-cast-r Inv-loop μ-loop
 cast-r c = omega (arith, root-below (c .before))
 
-mul-firsts : tie.Need-mul-firsts Inv-loop μ-loop
-mul-firsts c = omega (arith, root-below (c .before))
+mul-first : tie.Need-mul-first Inv-loop μ-loop
+mul-first c = omega (arith, root-below (c .before))
 
-element-copy-out-firsts : tie.Need-element-copy-out-firsts Inv-loop μ-loop
-element-copy-out-firsts c = root-below (c .before)
+element-copy-out-first : tie.Need-element-copy-out-first Inv-loop μ-loop
+element-copy-out-first c = root-below (c .before)
 
-mul-firsts-2 : tie.Need-mul-firsts-2 Inv-loop μ-loop
-mul-firsts-2 c = omega arith
+mul-first-2 : tie.Need-mul-first-2 Inv-loop μ-loop
+mul-first-2 c = omega arith
 
-array-write-firsts : tie.Need-array-write-firsts Inv-loop μ-loop
-array-write-firsts c = omega arith
+array-write-first : tie.Need-array-write-first Inv-loop μ-loop
+array-write-first c = omega arith
 
-mul-counts : tie.Need-mul-counts Inv-loop μ-loop
-mul-counts c = omega (arith, root-below (c .before .before))
+mul-count : tie.Need-mul-count Inv-loop μ-loop
+mul-count c = omega (arith, root-below (c .before .before))
 
-element-copy-out-counts : tie.Need-element-copy-out-counts Inv-loop μ-loop
-element-copy-out-counts c = root-below (c .before .before)
+element-copy-out-count : tie.Need-element-copy-out-count Inv-loop μ-loop
+element-copy-out-count c = root-below (c .before .before)
 
-mul-counts-2 : tie.Need-mul-counts-2 Inv-loop μ-loop
-mul-counts-2 c = omega arith
+mul-count-2 : tie.Need-mul-count-2 Inv-loop μ-loop
+mul-count-2 c = omega arith
 
-array-write-counts : tie.Need-array-write-counts Inv-loop μ-loop
-array-write-counts c = omega arith
+array-write-count : tie.Need-array-write-count Inv-loop μ-loop
+array-write-count c = omega arith
 
-element-copy-out-holds : tie.Need-element-copy-out-holds Inv-loop μ-loop
-element-copy-out-holds c = root-below (c .before .before .before)
+element-copy-out-hold : tie.Need-element-copy-out-hold Inv-loop μ-loop
+element-copy-out-hold c = root-below (c .before .before .before)
 
-sub-holds : tie.Need-sub-holds Inv-loop μ-loop
-sub-holds c =
+sub-hold : tie.Need-sub-hold Inv-loop μ-loop
+sub-hold c =
     let turn = c .before .before .before .before in
     turn .before .before .pre .1 (turn .before .loop .cell) (turn .loop-test .taken)
 
-array-write-holds : tie.Need-array-write-holds Inv-loop μ-loop
-array-write-holds c = omega arith
+array-write-hold : tie.Need-array-write-hold Inv-loop μ-loop
+array-write-hold c = omega arith
 
 add-cell : tie.Need-add-cell Inv-loop μ-loop
 add-cell c = omega arith
@@ -112,17 +112,17 @@ at-roots-spec =
     mul-r
     element-copy-out-r
     cast-r
-    mul-firsts
-    element-copy-out-firsts
-    mul-firsts-2
-    array-write-firsts
-    mul-counts
-    element-copy-out-counts
-    mul-counts-2
-    array-write-counts
-    element-copy-out-holds
-    sub-holds
-    array-write-holds
+    mul-first
+    element-copy-out-first
+    mul-first-2
+    array-write-first
+    mul-count
+    element-copy-out-count
+    mul-count-2
+    array-write-count
+    element-copy-out-hold
+    sub-hold
+    array-write-hold
     add-cell
     loop-less
     loop-again
