@@ -191,7 +191,7 @@ static inline struct kerb_joined kerb_joined(const struct kerb_book *book, uint1
 
 /* Why, and for how long: the chain from the first cell to the second, in the lorry's numbers. */
 static inline struct kerb_chain kerb_chain(const struct kerb_book *book, const uint16_t *log, size_t log_len, uint16_t one,
-                                           uint16_t other, uint16_t *chain, size_t chain_len)
+    uint16_t other, uint16_t *chain, size_t chain_len)
 {
     return kerb_value_chain(*book, log, log_len, one, other, chain, chain_len);
 }

@@ -102,6 +102,7 @@ single =
       fresh-labels = equal;
       walk = λ parent most cell. equal;
       walk-at = λ parent label most cut cell. equal;
+      root = λ parent most cell. equal;
       roots = λ parent most. equal;
       roots-at = λ parent label most cut. equal;
       hang = λ parent size most one other. equal;

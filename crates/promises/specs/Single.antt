@@ -126,6 +126,7 @@ pub record Single : Type 0 where
   pub fresh-labels : AtMostOne (λ r. r ≡ freshLabels 1024)
   pub walk : (parent : List ℕ) (most cell : ℕ) → AtMostOne (λ r. r ≡ walkOf parent most cell)
   pub walk-at : (parent label : List ℕ) (most cut cell : ℕ) → AtMostOne (λ r. r ≡ walkAtOf parent label most cut cell)
+  pub root : (parent : List ℕ) (most cell : ℕ) → AtMostOne (λ r. r ≡ walkOf parent most cell .root)
   pub roots : (parent : List ℕ) (most : ℕ) → AtMostOne (λ r. r ≡ rootsOf parent most 1024)
   pub roots-at : (parent label : List ℕ) (most cut : ℕ) → AtMostOne (λ r. r ≡ rootsAtOf parent label most cut 1024)
   -- uniting
