@@ -62,11 +62,11 @@ pub fn root(parent: &[u16], most: u8, cell: u16) -> u16
     let mut at = cell;
     let mut steps: u8 = 0;
     while steps < most {
-        let next = up(parent, at);
-        if next == at {
+        let above = up(parent, at);
+        if above == at {
             return at;
         }
-        at = next;
+        at = above;
         steps += 1;
     }
     at
@@ -79,11 +79,11 @@ fn root_at<'a>(parent: &'a [u16], label: &'a [u8], most: u8, cut: u8, cell: u16)
     let mut at = cell;
     let mut steps: u8 = 0;
     while steps < most {
-        let next = up_at(parent, label, cut, at);
-        if next == at {
+        let above = up_at(parent, label, cut, at);
+        if above == at {
             return at;
         }
-        at = next;
+        at = above;
         steps += 1;
     }
     at

@@ -1,7 +1,7 @@
 -- A cell that no parent step leaves or reaches is named by no link of the steps, so it is chained with itself alone.
 use Prim.Native.Nat.{ℕ, _<_, zero-le}
 use mathlib.Core.Path.{_≡_, refl, sym, _∙_, ap, fun-ext}
-use mathlib.Core.Bool.{true, _&&_, and-eq-true-iff}
+use mathlib.Core.Bool.{Bool, true, false, _&&_, and-eq-true-iff}
 use mathlib.Core.List.{List}
 use mathlib.Core.Logic.{⊎-elim}
 use native.Mathlib.Decide.{ℕ-discrete}
@@ -9,8 +9,10 @@ use borrow.Author.Tests.{eqb-true, eqb-false, eq-eqb, ne-eqb, le-ltb, not-true}
 use lib.Dec.{eqb}
 use Rattle.graph.specs.Link.{Link, Linked, Chained, same, chains}
 use Rattle.graph.proofs.Chains.{chained-sym, chained-alone, linked-append-cases, true-chains, false-chains}
+use Rattle.graph.specs.Forest.{climb, onward}
 use Rattle.forest.specs.Arrays.{freshParents, parentIn, parentAtIn, labelIn}
 use Rattle.soundness.proofs.Every.{every-each}
+use Rattle.forest.proofs.Climb.{climb-stays, climb-goes, climb-none}
 use Rattle.forest.proofs.Fill.{length-countFrom}
 use Rattle.state.specs.Arrays.{cells}
 use Rattle.joined.specs.Alone.{apart, aloneIn}
@@ -43,6 +45,25 @@ module _ {up : ℕ → ℕ} (r : Rooted up) {ls : List Link} (steps : Steps up 0
       (λ q. ends .0 (sym (own-parent asked (up asked) (apart-at asked inside)) ∙ q))
       (no-parent (λ s. ends .0 (sym s)) (apart-at c (linked-cell r steps inside l)))
       (ends .1)
+
+-- so a cell that takes a step does not stand alone
+pub goes-not-alone : (up : ℕ → ℕ) {asked : ℕ} → asked < cells → ¬ (up asked ≡ asked) → aloneIn up asked ≡ false
+goes-not-alone up {asked} inside goes = by _ refl
+  where
+    by : (b : Bool) → aloneIn up asked ≡ b → aloneIn up asked ≡ false
+    by false e = e
+    by true e =
+        absurd
+        (goes
+        (own-parent asked (up asked) (every-each (λ cell _. apart asked cell (up cell)) (freshParents cells) e asked (rw length-countFrom inside))))
+
+-- one step of a walk is the step
+pub one-step : (up : ℕ → ℕ) (c : ℕ) → climb up 1 c .root ≡ up c
+one-step up c = by (ℕ-discrete (up c) c)
+  where
+    by : Dec (up c ≡ c) → climb up 1 c .root ≡ up c
+    by (yes e) = ap (λ w. w .root) (climb-stays up 1 c e) ∙ sym e
+    by (no n) = ap (λ w. w .root) (climb-goes up 0 c n ∙ ap onward (climb-none up (up c)))
 
 -- ---- the answer
 

@@ -4,9 +4,9 @@ use slides::Clock;
 use state::Book;
 use state::order;
 ghost use mathlib.Core.Path.{_≡_};
-ghost use mathlib.Core.Bool.{false, cond, _&&_};
-ghost use Prim.Native.Nat.{_+_};
-ghost use lib.Dec.{ltb};
+ghost use mathlib.Core.Bool.{false, cond, not, _&&_};
+ghost use Prim.Native.Nat.{_+_, _<_};
+ghost use lib.Dec.{eqb, ltb};
 ghost use lib.ListN.{length};
 ghost use Rattle.graph.specs.Link.{chains};
 ghost use Rattle.forest.specs.Arrays.{parentIn, parentAtIn};
@@ -170,16 +170,30 @@ fn across<'a>(
 }
 
 // Whether no parent step leaves or reaches the cell, in either forest. Two passes tell, which cost less than the roots of
-// all cells.
+// all cells; a cell that takes a step itself is spared them.
 fn alone<'a>(backward: &'a [u16], label: &'a [u8], forward: &'a [u16], cut: u8, cell: u16) -> bool
-    requires { ⌜ (length (now backward) ≡ 1024) × (length (now label) ≡ 1024) × (length (now forward) ≡ 1024) ⌝ }
+    requires { ⌜ (length (now backward) ≡ 1024) × (length (now label) ≡ 1024) × (length (now forward) ≡ 1024) × (cell < 1024) ⌝ }
     ensures { λ r. ⌜ r ≡ aloneIn (parentAtIn (now (backward .entry)) (now (label .entry)) cut) cell && aloneIn (parentIn (now (forward .entry))) cell ⌝ }
 {
-    if !alone_in(backward, label, cut, cell) {
+    if goes(backward, label, cut, cell) {
         return false;
     }
     // At cut 0 every step is taken, whatever its label.
+    if goes(forward, label, 0, cell) {
+        return false;
+    }
+    if !alone_in(backward, label, cut, cell) {
+        return false;
+    }
     alone_in(forward, label, 0, cell)
+}
+
+// Whether the cell takes a step at the cut.
+fn goes<'a>(parent: &'a [u16], label: &'a [u8], cut: u8, cell: u16) -> bool
+    ensures { λ r. ⌜ r ≡ not (eqb (parentAtIn (now (parent .entry)) (now (label .entry)) cut cell) cell) ⌝ }
+{
+    let step = walks::walk_at(parent, label, 1, cut, cell);
+    step.root != cell
 }
 
 // The same of one forest at a cut.

@@ -105,6 +105,7 @@ single =
       root = λ parent most cell. equal;
       roots = λ parent most. equal;
       roots-at = λ parent label most cut. equal;
+      hang-roots = λ size a b. equal;
       hang = λ parent size most one other. equal;
       hang-parent = λ parent h. equal;
       hang-size = λ size h. equal;

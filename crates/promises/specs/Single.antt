@@ -10,7 +10,7 @@ use Rattle.cells.specs.Cell.{mirror, lorryCell}
 use Rattle.slides.specs.Clock.{notBefore, slideOf, openSlide, chunkOf, placeOf, started, movedTo, clockInRange}
 use Rattle.slides.specs.declared.Clock.{Clock}
 use Rattle.forest.specs.Arrays.{freshParents, freshSizes, freshLabels, walkOf, walkAtOf, rootsOf, rootsAtOf}
-use Rattle.uniting.specs.United.{hangOf, hungParents, hungSizes, hungLabels, United}
+use Rattle.uniting.specs.United.{hangRoots, hangOf, hungParents, hungSizes, hungLabels, United}
 use Rattle.uniting.specs.declared.Hang.{Hang}
 use Rattle.soundness.specs.Sound.{every, within, soundOf, labelsWithin}
 use Rattle.lists.specs.Listed as lists
@@ -130,6 +130,7 @@ pub record Single : Type 0 where
   pub roots : (parent : List ℕ) (most : ℕ) → AtMostOne (λ r. r ≡ rootsOf parent most 1024)
   pub roots-at : (parent label : List ℕ) (most cut : ℕ) → AtMostOne (λ r. r ≡ rootsAtOf parent label most cut 1024)
   -- uniting
+  pub hang-roots : (size : List ℕ) (a b : ℕ) → AtMostOne (λ r. r ≡ hangRoots size a b)
   pub hang : (parent size : List ℕ) (most one other : ℕ) → AtMostOne (λ r. r ≡ hangOf parent size most one other)
   pub hang-parent : (parent : List ℕ) (h : Hang) → AtMostOne (λ r. r ≡ hungParents parent h)
   pub hang-size : (size : List ℕ) (h : Hang) → AtMostOne (λ r. r ≡ hungSizes size h)

@@ -55,7 +55,13 @@ pub fn unite(
     ensures { λ _. ⌜ United (now (parent .entry)) (now (size .entry)) (now (label .entry)) most one other place
         (now (parent .exit)) (now (size .exit)) (now (label .exit)) ⌝ }
 {
-    let h = roots::hang(parent, size, most, one, other);
+    let a = forest::walks::root(parent, most, one);
+    let b = forest::walks::root(parent, most, other);
+    // Most links of a full window find their ends joined already.
+    if a == b {
+        return;
+    }
+    let h = roots::hang_roots(size, a, b);
     hang_parent(parent, h);
     hang_size(size, h);
     hang_label(label, h, place);

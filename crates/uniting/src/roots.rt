@@ -16,7 +16,7 @@ pub fn hang<'a>(parent: &'a [u16], size: &'a [u16], most: u8, one: u16, other: u
 }
 
 // Of two roots, who hangs under whom.
-fn hang_roots(size: &[u16], a: u16, b: u16) -> Hang
+pub fn hang_roots(size: &[u16], a: u16, b: u16) -> Hang
     ensures { λ r. ⌜ r ≡ hangRoots (now (size .entry)) a b ⌝ }
 {
     if a == b {

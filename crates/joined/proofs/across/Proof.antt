@@ -22,7 +22,9 @@ lengths : (c : tie.Start) → (let args = c .args in (length (args .backward .no
 lengths c = (c .pre .backward-sound .long, c .pre .labels-long, c .pre .forward-sound .long)
 
 alone-requires : tie.Need-alone-requires
-alone-requires c κs = lengths (c .before .before .before)
+alone-requires c κs =
+    let start = c .before .before .before in
+    (lengths start .0, lengths start .1, lengths start .2, start .pre .one-cell)
 
 returns : tie.Need-returns
 returns c =
@@ -30,7 +32,9 @@ returns c =
     one-alone (start .pre) (sym (c .before .alone .ensures) ∙ c .if1 .taken)
 
 alone-requires-2 : tie.Need-alone-requires-2
-alone-requires-2 c κs = lengths (entry (c .before))
+alone-requires-2 c κs =
+    let start = entry (c .before) in
+    (lengths start .0, lengths start .1, lengths start .2, start .pre .other-cell)
 
 returns-2 : tie.Need-returns-2
 returns-2 c =
