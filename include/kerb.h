@@ -144,6 +144,19 @@ struct kerb_listed kerb_list(const uint8_t *file, size_t file_len, uint8_t *out,
 }
 #endif
 
+/* The fields of a book in the order in which the functions above are lent them: said here, and nowhere else. */
+#define KERB_FIELDS(book) \
+    (book)->clock, (book)->mounting, (book)->counts, (book)->forward_parent, (book)->forward_size, \
+        (book)->backward_parent, (book)->backward_size, (book)->backward_label
+
+/* The clock and the mounting are lent by value, so they come back in the answer. */
+static inline uint8_t kerb_put_back(struct kerb_book *book, struct kerb_lent answer)
+{
+    book->clock = answer.clock;
+    book->mounting = answer.mounting;
+    return answer.number;
+}
+
 /* A book that was never opened. A book that is all zero bytes is one too. */
 static inline void kerb_never_opened(struct kerb_book *book)
 {
@@ -153,40 +166,26 @@ static inline void kerb_never_opened(struct kerb_book *book)
 /* A fresh history, whatever the book was; clears the first 16,384 places of the log. Gives 0, KERB_SETTINGS or KERB_SHORT. */
 static inline uint8_t kerb_opening(struct kerb_book *book, uint16_t *log, size_t log_len, struct kerb_settings settings)
 {
-    const struct kerb_lent answer = kerb_lent_opening(book->clock, book->mounting, book->counts, book->forward_parent,
-        book->forward_size, book->backward_parent, book->backward_size, book->backward_label, log, log_len, settings);
-    book->clock = answer.clock;
-    book->mounting = answer.mounting;
-    return answer.number;
+    return kerb_put_back(book, kerb_lent_opening(KERB_FIELDS(book), log, log_len, settings));
 }
 
 /* A link of two cells, in the unit's numbers, at a tick. */
 static inline uint8_t kerb_link(struct kerb_book *book, uint16_t *log, size_t log_len, uint32_t tick, uint16_t one,
     uint16_t other)
 {
-    const struct kerb_lent answer = kerb_lent_link(book->clock, book->mounting, book->counts, book->forward_parent,
-        book->forward_size, book->backward_parent, book->backward_size, book->backward_label, log, log_len, tick, one,
-        other);
-    book->clock = answer.clock;
-    book->mounting = answer.mounting;
-    return answer.number;
+    return kerb_put_back(book, kerb_lent_link(KERB_FIELDS(book), log, log_len, tick, one, other));
 }
 
 /* The time moves to the tick, and nothing is logged. */
 static inline uint8_t kerb_clock(struct kerb_book *book, const uint16_t *log, size_t log_len, uint32_t tick)
 {
-    const struct kerb_lent answer = kerb_lent_clock(book->clock, book->mounting, book->counts, book->forward_parent,
-        book->forward_size, book->backward_parent, book->backward_size, book->backward_label, log, log_len, tick);
-    book->clock = answer.clock;
-    book->mounting = answer.mounting;
-    return answer.number;
+    return kerb_put_back(book, kerb_lent_clock(KERB_FIELDS(book), log, log_len, tick));
 }
 
 /* Whether links of the window join the two cells, in the lorry's numbers. */
 static inline struct kerb_joined kerb_joined(const struct kerb_book *book, uint16_t one, uint16_t other)
 {
-    return kerb_lent_joined(book->clock, book->mounting, book->counts, book->forward_parent, book->forward_size,
-        book->backward_parent, book->backward_size, book->backward_label, one, other);
+    return kerb_lent_joined(KERB_FIELDS(book), one, other);
 }
 
 /* Why, and for how long: the chain from the first cell to the second, in the lorry's numbers. */
@@ -195,5 +194,7 @@ static inline struct kerb_chain kerb_chain(const struct kerb_book *book, const u
 {
     return kerb_value_chain(*book, log, log_len, one, other, chain, chain_len);
 }
+
+#undef KERB_FIELDS
 
 #endif

@@ -159,93 +159,74 @@ mod panel {
     }
 }
 
-// Safe, all of them: each pointer and its length come from one slice, what is written to is borrowed
+// Safe, all of them: each pointer and its length come from one slice or array, what is written to is borrowed
 // `&mut` and so overlaps nothing, and the library is proved to stay inside for every content.
+
+/// A call of the library over the fields of a book: the one place that says in which order they are lent.
+macro_rules! lent {
+    ($call:ident, $book:ident, $pointer:ident, $($rest:expr),+) => {
+        unsafe {
+            panel::$call(
+                $book.clock,
+                $book.mounting,
+                $book.counts.$pointer(),
+                $book.forward_parent.$pointer(),
+                $book.forward_size.$pointer(),
+                $book.backward_parent.$pointer(),
+                $book.backward_size.$pointer(),
+                $book.backward_label.$pointer(),
+                $($rest),+
+            )
+        }
+    };
+}
 
 pub fn never_opened() -> Book {
     unsafe { panel::kerb_value_never_opened() }
 }
 
 pub fn opening(book: &mut Book, log: &mut [u16], settings: Settings) -> u8 {
-    let answer = unsafe {
-        panel::kerb_lent_opening(
-            book.clock,
-            book.mounting,
-            book.counts.as_mut_ptr(),
-            book.forward_parent.as_mut_ptr(),
-            book.forward_size.as_mut_ptr(),
-            book.backward_parent.as_mut_ptr(),
-            book.backward_size.as_mut_ptr(),
-            book.backward_label.as_mut_ptr(),
-            log.as_mut_ptr(),
-            log.len(),
-            settings,
-        )
-    };
-    book.clock = answer.clock;
-    book.mounting = answer.mounting;
-    answer.number
+    let (places, len) = (log.as_mut_ptr(), log.len());
+    let answer = lent!(kerb_lent_opening, book, as_mut_ptr, places, len, settings);
+    put_back(book, answer)
 }
 
 pub fn link(book: &mut Book, log: &mut [u16], tick: u32, one: u16, other: u16) -> u8 {
-    let answer = unsafe {
-        panel::kerb_lent_link(
-            book.clock,
-            book.mounting,
-            book.counts.as_mut_ptr(),
-            book.forward_parent.as_mut_ptr(),
-            book.forward_size.as_mut_ptr(),
-            book.backward_parent.as_mut_ptr(),
-            book.backward_size.as_mut_ptr(),
-            book.backward_label.as_mut_ptr(),
-            log.as_mut_ptr(),
-            log.len(),
-            tick,
-            one,
-            other,
-        )
-    };
-    book.clock = answer.clock;
-    book.mounting = answer.mounting;
-    answer.number
+    let (places, len) = (log.as_mut_ptr(), log.len());
+    let answer = lent!(
+        kerb_lent_link,
+        book,
+        as_mut_ptr,
+        places,
+        len,
+        tick,
+        one,
+        other
+    );
+    put_back(book, answer)
 }
 
 pub fn clock(book: &mut Book, log: &[u16], tick: u32) -> u8 {
-    let answer = unsafe {
-        panel::kerb_lent_clock(
-            book.clock,
-            book.mounting,
-            book.counts.as_mut_ptr(),
-            book.forward_parent.as_mut_ptr(),
-            book.forward_size.as_mut_ptr(),
-            book.backward_parent.as_mut_ptr(),
-            book.backward_size.as_mut_ptr(),
-            book.backward_label.as_mut_ptr(),
-            log.as_ptr(),
-            log.len(),
-            tick,
-        )
-    };
+    let answer = lent!(
+        kerb_lent_clock,
+        book,
+        as_mut_ptr,
+        log.as_ptr(),
+        log.len(),
+        tick
+    );
+    put_back(book, answer)
+}
+
+/// The clock and the mounting are lent by value, so they come back in the answer.
+fn put_back(book: &mut Book, answer: LentAnswer) -> u8 {
     book.clock = answer.clock;
     book.mounting = answer.mounting;
     answer.number
 }
 
 pub fn joined(book: &Book, one: u16, other: u16) -> JoinedAnswer {
-    unsafe {
-        panel::kerb_lent_joined(
-            book.clock,
-            book.mounting,
-            book.counts.as_ptr(),
-            book.forward_parent.as_ptr(),
-            book.forward_size.as_ptr(),
-            book.backward_parent.as_ptr(),
-            book.backward_size.as_ptr(),
-            book.backward_label.as_ptr(),
-            one,
-            other,
-        )
-    }
+    lent!(kerb_lent_joined, book, as_ptr, one, other)
 }
 
 pub fn chain(book: &Book, log: &[u16], one: u16, other: u16, chain: &mut [u16]) -> ChainAnswer {
