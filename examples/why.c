@@ -1,8 +1,8 @@
 /*
  * Why is the lamp dark? The book of document 01's listing, from C: five links, two questions, and the chain that answers them.
  *
- *     rt staticlib panel
- *     gcc -std=c99 -Wall -Wextra -Werror -pedantic -Iinclude examples/why.c target/staticlib/libpanel.a -o why
+ *     rt staticlib kerb
+ *     gcc -std=c99 -Wall -Wextra -Werror -pedantic -Iinclude examples/why.c target/staticlib/libkerb.a -o why
  */
 #include <stdio.h>
 

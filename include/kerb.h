@@ -1,7 +1,7 @@
 /*
  * The book of links for one blind-spot lidar, for C (C99 and later) and C++.
  *
- * Link with the static library libpanel.a (`rt staticlib panel`). Every call answers every input: what it can't do it refuses by a
+ * Link with the static library libkerb.a (`rt staticlib kerb`). Every call answers every input: what it can't do it refuses by a
  * number of `enum kerb_number`, and then the book and all lent places are as they were and the other fields of the answer
  * are 0. What each call gives, number by number, is in docs/CONTRACTS.md and docs/BOOK.md.
  *
@@ -109,7 +109,7 @@ struct kerb_listed {
     uint8_t number;
 };
 
-/* The proved functions of libpanel.a over a book, which is lent to them field by field, where it stands, or by value. A caller wants
+/* The proved functions of libkerb.a over a book, which is lent to them field by field, where it stands, or by value. A caller wants
  * the calls at the end of this file, which put a book's fields in order. */
 struct kerb_book kerb_value_never_opened(void);
 struct kerb_lent kerb_lent_opening(struct kerb_clock clock, uint8_t mounting, uint16_t *counts,

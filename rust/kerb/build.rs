@@ -1,16 +1,16 @@
-//! Links the static library that `rt staticlib panel` writes.
+//! Links the static library that `rt staticlib kerb` writes.
 
 use std::path::Path;
 
 fn main() {
     let root = Path::new(env!("CARGO_MANIFEST_DIR")).join("../..");
     let folder = root.join("target/staticlib");
-    let archive = folder.join("libpanel.a");
+    let archive = folder.join("libkerb.a");
     println!("cargo:rerun-if-changed={}", archive.display());
     if !archive.exists() {
-        println!("cargo:warning=the static library is missing: run `rt staticlib panel` in the repository's folder");
+        println!("cargo:warning=the static library is missing: run `rt staticlib kerb` in the repository's folder");
         std::process::exit(1);
     }
     println!("cargo:rustc-link-search=native={}", folder.display());
-    println!("cargo:rustc-link-lib=static=panel");
+    println!("cargo:rustc-link-lib=static=kerb");
 }

@@ -11,13 +11,13 @@ use lib.ListN.{length}
 use Rattle.settings.specs.declared.Settings.{Settings}
 use Rattle.slides.specs.Clock.{notBefore, slideOf, placeOf}
 use Rattle.slides.proofs.Slides.{moved-n, moved-place, moved-slide, place-below}
-use Rattle.state.specs.declared.Book.{Book}
-use Rattle.state.specs.Log.{Readable, stored}
-use Rattle.state.specs.Numbers.{has, logPlaces, areCells}
-use Rattle.state.specs.Order.{inOrder, neverOpened}
-use Rattle.state.proofs.Checks.{first-passed, fails, unless-passed, has-length, readable, never-in-order}
-use Rattle.chunks.specs.Time.{movedBook}
-use Rattle.chunks.proofs.Moves.{chunkAfter, spotThen, moved-clock, moved-count}
+use Rattle.book_state.specs.declared.Book.{Book}
+use Rattle.book_state.specs.Log.{Readable, stored}
+use Rattle.book_state.specs.Numbers.{has, logPlaces, areCells}
+use Rattle.book_state.specs.Order.{inOrder, neverOpened}
+use Rattle.book_state.proofs.Checks.{first-passed, fails, unless-passed, has-length, readable, never-in-order}
+use Rattle.book_time.specs.Time.{movedBook}
+use Rattle.book_time.proofs.Moves.{chunkAfter, spotThen, moved-clock, moved-count}
 use Rattle.book.specs.Calls.{Outcome, Gives, Room, openSpot, openingNumber, linkNumber, clockNumber}
 
 -- ---- an outcome by its number

@@ -12,14 +12,14 @@ use Rattle.settings.specs.declared.Settings.{Settings}
 use Rattle.cells.specs.Cell.{lorryCell}
 use Rattle.slides.specs.Clock.{notBefore, slideOf, openSlide, chunkOf, placeOf, started}
 use Rattle.slides.specs.declared.Clock.{Clock}
-use Rattle.uniting.specs.United.{hangOf, hungParents, hungSizes}
-use Rattle.uniting.specs.declared.Hang.{Hang}
-use Rattle.state.specs.declared.Book.{Book}
-use Rattle.state.specs.Arrays.{most}
-use Rattle.state.specs.Numbers.{firstOf, unless, has, logPlaces, areCells}
-use Rattle.state.specs.Log.{halfOf, spotOf, startOf, stored}
-use Rattle.state.specs.Order.{bookOf, inOrder}
-use Rattle.chunks.specs.Time.{emptied, movedBook}
+use Rattle.forest_unite.specs.United.{hangOf, hungParents, hungSizes}
+use Rattle.forest_unite.specs.declared.Hang.{Hang}
+use Rattle.book_state.specs.declared.Book.{Book}
+use Rattle.book_state.specs.Arrays.{most}
+use Rattle.book_state.specs.Numbers.{firstOf, unless, has, logPlaces, areCells}
+use Rattle.book_state.specs.Log.{halfOf, spotOf, startOf, stored}
+use Rattle.book_state.specs.Order.{bookOf, inOrder}
+use Rattle.book_time.specs.Time.{emptied, movedBook}
 use Rattle.book.specs.declared.Answer.{Answer}
 use Rattle.book.specs.declared.lent.LentAnswer.{LentAnswer}
 

@@ -1,12 +1,12 @@
 // Opening, link and clock over the fields of a book, each lent where it stands: no copy of the book is made.
 use super::numbers;
 use settings::Settings;
-use state::order;
-use state::spots;
+use book_state::order;
+use book_state::spots;
 ghost use mathlib.Core.Path.{_≡_};
 ghost use mathlib.Core.List.{List};
 ghost use Prim.Native.Nat.{ℕ};
-ghost use Rattle.state.specs.Order.{bookOf};
+ghost use Rattle.book_state.specs.Order.{bookOf};
 ghost use Rattle.book.specs.Calls.{GivesLent, Room, openingOf, linkOf, linkStored, clockOf};
 
 // What a call over lent fields gives: the clock and the mounting after it, and the number of the table.
@@ -55,7 +55,7 @@ pub fn link(
     }
     let first = cells::lorry_cell(mounting, one);
     let second = cells::lorry_cell(mounting, other);
-    let moved = chunks::move_to(
+    let moved = book_time::move_to(
         clock,
         counts,
         forward_parent,
@@ -101,9 +101,9 @@ fn store(
     log[at] = one;
     log[at + 1] = other;
     counts[spot] = count + 1;
-    let h = uniting::roots::hang(forward_parent, forward_size, 10, one, other);
-    uniting::hang_parent(forward_parent, h);
-    uniting::hang_size(forward_size, h);
+    let h = forest_unite::roots::hang(forward_parent, forward_size, 10, one, other);
+    forest_unite::hang_parent(forward_parent, h);
+    forest_unite::hang_size(forward_size, h);
 }
 
 // The time moves to the tick, and nothing is logged.
@@ -139,7 +139,7 @@ pub fn clock(
             number,
         };
     }
-    let moved = chunks::move_to(
+    let moved = book_time::move_to(
         clock,
         counts,
         forward_parent,
@@ -181,7 +181,7 @@ pub fn opening(
         };
     }
     spots::clear(log, 16384);
-    chunks::freshen(
+    book_time::freshen(
         forward_parent,
         forward_size,
         backward_parent,

@@ -4,7 +4,7 @@ pub mod lent; // lent.rt: the same over the fields of a book, each lent where it
 mod numbers; // numbers.rt: the number of each call, the first check that fails
 
 use settings::Settings;
-use state::Book;
+use book_state::Book;
 ghost use Rattle.book.specs.Calls.{Gives, openingOf, linkOf, clockOf};
 
 // What opening, link and clock give: the book, and the number of the table.

@@ -11,13 +11,13 @@ use lib.ListN.{length, getD}
 use Rattle.graph.specs.Forest.{Labelled}
 use Rattle.forest.specs.Arrays.{countFrom}
 use Rattle.forest.proofs.Fill.{getD-each}
-use Rattle.state.specs.declared.Book.{Book}
-use Rattle.state.specs.Arrays.{cells}
+use Rattle.book_state.specs.declared.Book.{Book}
+use Rattle.book_state.specs.Arrays.{cells}
 use Rattle.window.specs.Window.{windowLinks}
-use Rattle.groups.specs.declared.Groups.{Groups}
-use Rattle.groups.specs.Groups.{groupOf, groupsOf}
-use Rattle.groups.proofs.Cells.{group-few}
-use Rattle.groups.proofs.LeastHold.{hold-n}
+use Rattle.window_groups.specs.declared.Groups.{Groups}
+use Rattle.window_groups.specs.Groups.{groupOf, groupsOf}
+use Rattle.window_groups.proofs.Cells.{group-few}
+use Rattle.window_groups.proofs.LeastHold.{hold-n}
 use Rattle.listing.specs.Lines.{leads, groupLineIf, linesOf, groupLines, toldLine, toldLines, Small}
 use Rattle.listing.proofs.Printed.{group-line-short}
 

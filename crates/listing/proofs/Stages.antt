@@ -7,20 +7,20 @@ use mathlib.Core.List.{List}
 use native.Mathlib.Omega.{arith}
 use lib.Dec.{leb}
 use lib.ListN.{length, drop, replicate, length-append}
-use Rattle.linkfile.specs.Format.{ending, readNumber, readAnswer, readOf}
-use Rattle.linkfile.specs.declared.Reading.{Reading}
-use Rattle.linkfile.proofs.Laws as linkfile
-use Rattle.state.specs.declared.Book.{Book}
+use Rattle.file.specs.Format.{ending, readNumber, readAnswer, readOf}
+use Rattle.file.specs.declared.Reading.{Reading}
+use Rattle.file.proofs.Laws as linkfile
+use Rattle.book_state.specs.declared.Book.{Book}
 use Rattle.book.specs.declared.Answer.{Answer}
-use Rattle.state.specs.Order.{neverOpened}
-use Rattle.state.specs.Numbers.{logPlaces}
+use Rattle.book_state.specs.Order.{neverOpened}
+use Rattle.book_state.specs.Numbers.{logPlaces}
 use Rattle.book.specs.Calls.{Outcome, Gives, openingOf}
 use Rattle.listing.specs.declared.Listed.{Listed}
-use Rattle.playing.specs.declared.Played.{Played}
+use Rattle.file_play.specs.declared.Played.{Played}
 use Rattle.listing.specs.Lines.{refusedFile, refusedRecord}
-use Rattle.playing.specs.Play.{Play, Plays, playFrom}
+use Rattle.file_play.specs.Play.{Play, Plays, playFrom}
 use Rattle.listing.specs.Listing.{Lists, bookText, playedText, openedText, readText, listingText, outputPlaces, listedIf, listingOf}
-use Rattle.playing.proofs.Playing.{Ready, opening-ready, played-ready}
+use Rattle.file_play.proofs.Playing.{Ready, opening-ready, played-ready}
 
 -- a file that is taken has its records
 pub read-size : (file : List ℕ) {r : Reading} → r ≡ readOf file → r .number ≡ 0 → 8 * r .m ≤ length file

@@ -7,8 +7,8 @@ use lib.Dec.{eqb, ltb}
 use lib.ListN.{length, getD}
 use Rattle.graph.specs.Forest.{Labelled}
 use Rattle.forest.specs.Arrays.{countFrom}
-use Rattle.state.specs.Arrays.{cells}
-use Rattle.groups.specs.Groups.{groupOf, smallest, leastHold}
+use Rattle.book_state.specs.Arrays.{cells}
+use Rattle.window_groups.specs.Groups.{groupOf, smallest, leastHold}
 use Rattle.text.specs.Text.{blank, lineFeed, fields, line}
 
 -- "window", "group", "links", "refused", "file"

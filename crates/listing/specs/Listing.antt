@@ -7,17 +7,17 @@ use lib.Dec.{leb}
 use lib.ListN.{length, drop, replicate}
 use Rattle.slides.specs.Clock.{openSlide}
 use Rattle.slides.specs.declared.Clock.{Clock}
-use Rattle.linkfile.specs.Format.{readOf}
-use Rattle.linkfile.specs.declared.Reading.{Reading}
-use Rattle.state.specs.declared.Book.{Book}
-use Rattle.state.specs.Order.{neverOpened}
+use Rattle.file.specs.Format.{readOf}
+use Rattle.file.specs.declared.Reading.{Reading}
+use Rattle.book_state.specs.declared.Book.{Book}
+use Rattle.book_state.specs.Order.{neverOpened}
 use Rattle.book.specs.Calls.{Outcome, openingOf}
-use Rattle.state.specs.Numbers.{logPlaces}
+use Rattle.book_state.specs.Numbers.{logPlaces}
 use Rattle.window.specs.Window.{windowLinks}
 use Rattle.listing.specs.declared.Listed.{Listed}
 use Rattle.listing.specs.Lines.{windowWord, linksWord, refusedFile, refusedRecord, groupLines}
 use Rattle.text.specs.Text.{line}
-use Rattle.playing.specs.Play.{Play, playFrom}
+use Rattle.file_play.specs.Play.{Play, playFrom}
 
 -- n, B, mounting, open slide
 abbrev pub windowLine : Clock → ℕ → List ℕ

@@ -9,9 +9,9 @@ use mathlib.Core.List.{List, [], _∷_, reverse}
 use lib.ListN.{length, getD}
 use Rattle.settings.specs.Settings.{takenNumber}
 use Rattle.forest.specs.Arrays.{parentIn, sizeIn, held}
-use Rattle.state.specs.Arrays.{cells}
-use Rattle.state.specs.Log.{halfOf, spotOf, startOf, linksFrom}
-use Rattle.state.specs.Numbers.{has, logPlaces}
+use Rattle.book_state.specs.Arrays.{cells}
+use Rattle.book_state.specs.Log.{halfOf, spotOf, startOf, linksFrom}
+use Rattle.book_state.specs.Numbers.{has, logPlaces}
 use Rattle.promises.specs.History.{Stored, History, clockIn, openSlideIn, chunkIn, slideLinks, howMany, linksOf}
 use Rattle.promises.specs.Panel.{State}
 use Rattle.promises.specs.Demands.{forwardForest, backwardForest}

@@ -14,7 +14,7 @@ use lib.Dec.{eqb, leb}
 use borrow.Author.Tests.{eq-eqb, ne-eqb, eqb-true, le-leb, leb-true}
 use Rattle.graph.specs.Forest.{Labelled}
 use Rattle.slides.proofs.Slides.{InRange}
-use Rattle.state.specs.Log.{halfOf, spotOf, placeLinks, labelled, chunkLinks}
+use Rattle.book_state.specs.Log.{halfOf, spotOf, placeLinks, labelled, chunkLinks}
 use Rattle.promises.specs.History.{Stored, History, clockIn, chunkIn, ofSlides, slideLinks, linksOf}
 use Rattle.promises.specs.Panel.{State}
 use Rattle.promises.proofs.Agrees.{spotIn, Kept, Agrees}

@@ -12,7 +12,7 @@ use borrow.Author.Tests.{le-leb, lt-ltb, ltb-true, leb-true}
 use Rattle.graph.specs.Link.{Link, Linked, along, against, here, there}
 use Rattle.graph.proofs.Chains.{Relinks}
 use Rattle.graph.proofs.Distinct.{Inside}
-use Rattle.state.specs.Arrays.{cells}
+use Rattle.book_state.specs.Arrays.{cells}
 use Rattle.promises.specs.History.{Stored, History, openSlideIn, ofSlides, linksOf, inWindow, windowAt, windowOf, linksSince}
 use Rattle.promises.proofs.Agrees.{Falling, next, Sensible}
 use Rattle.promises.proofs.Lists.{same-test, same-slides}

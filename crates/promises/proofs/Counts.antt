@@ -8,9 +8,9 @@ use native.Mathlib.Omega.{arith}
 use native.Mathlib.Decide.{decLe, decLt}
 use lib.ListN.{length, getD, take, drop, replicate, length-append, length-drop, length-replicate, List·getD-append}
 use lib.Seq.{length-take-le, getD-append-add, getD-take, getD-drop}
-use Rattle.state.specs.Log.{halfOf, spotOf}
-use Rattle.chunks.specs.Time.{cleared}
-use Rattle.chunks.proofs.Moves.{cleared-there}
+use Rattle.book_state.specs.Log.{halfOf, spotOf}
+use Rattle.book_time.specs.Time.{cleared}
+use Rattle.book_time.proofs.Moves.{cleared-there}
 
 -- every other place is as it was
 cleared-rest : (m k i : ℕ) (l : List ℕ) → m + k ≤ length l → (i < m) ⊎ (m + k ≤ i)

@@ -16,15 +16,15 @@ use Rattle.settings.specs.declared.Settings.{Settings}
 use Rattle.slides.specs.Clock.{notBefore, slideOf, placeOf, started, movedTo, clockInRange}
 use Rattle.cells.specs.Cell.{lorryCellOver}
 use Rattle.forest.specs.Arrays.{countFrom}
-use Rattle.soundness.specs.Sound.{every}
-use Rattle.state.specs.Arrays.{united, unitedAll}
-use Rattle.state.specs.Log.{linksFrom, chunkLinks, stored}
-use Rattle.state.specs.Order.{inOrder, inOrderOf}
-use Rattle.chunks.specs.Time.{cleared, emptied, stayed, backwardOf, turned, movedBy, movedBook}
-use Rattle.state.specs.Numbers.{firstOf, has, logPlaces}
-use Rattle.joined.specs.Joined.{forwardSteps, backwardSteps, stepLinks, fourWalks, joinedNumber, joinedBy, joinedOf}
+use Rattle.forest_check.specs.Sound.{every}
+use Rattle.book_state.specs.Arrays.{united, unitedAll}
+use Rattle.book_state.specs.Log.{linksFrom, chunkLinks, stored}
+use Rattle.book_state.specs.Order.{inOrder, inOrderOf}
+use Rattle.book_time.specs.Time.{cleared, emptied, stayed, backwardOf, turned, movedBy, movedBook}
+use Rattle.book_state.specs.Numbers.{firstOf, has, logPlaces}
+use Rattle.book_joined.specs.Joined.{forwardSteps, backwardSteps, stepLinks, fourWalks, joinedNumber, joinedBy, joinedOf}
 use Rattle.book.specs.Calls.{openingNumber, openingBy, openingOf, linkNumber, linkStored, linkBy, linkOf, clockNumber, clockBy, clockOf}
-use Rattle.trail.specs.Chain.{chainPlaces}
+use Rattle.chain.specs.Chain.{chainPlaces}
 use Rattle.promises.specs.History.{Call, opening, link, History, begun, historyFrom, oneMore, firstBy, ofSlides, howMany, numberIn, added, addedBy, windowOf}
 use Rattle.promises.specs.Panel.{Panel, ours, State, gives, after}
 use Rattle.promises.specs.Demands.{Told, Table, Refused, Joined, Chain}

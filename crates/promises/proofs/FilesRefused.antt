@@ -6,10 +6,10 @@ use mathlib.Core.Path.{_≡_, refl, sym}
 use mathlib.Core.Bool.{Bool, true, false}
 use mathlib.Core.List.{List}
 use native.Mathlib.Omega.{arith}
-use Rattle.linkfile.proofs.Files.{refused-read, refused-write}
-use Rattle.state.specs.declared.Book.{Book}
+use Rattle.file.proofs.Files.{refused-read, refused-write}
+use Rattle.book_state.specs.declared.Book.{Book}
 use Rattle.book.specs.Calls.{Outcome}
-use Rattle.playing.specs.Play.{Play, tickAt, oneAt, otherAt, recordGives, playBy, playFrom}
+use Rattle.file_play.specs.Play.{Play, tickAt, oneAt, otherAt, recordGives, playBy, playFrom}
 use Rattle.listing.specs.Listing.{listedIf, listingOf}
 use Rattle.promises.specs.History.{link}
 use Rattle.promises.specs.Panel.{gives}

@@ -6,8 +6,8 @@ use mathlib.Core.List.{List, [], _∷_, map}
 use native.Mathlib.Nat.{le-refl}
 use lib.Dec.{eqb, leb}
 use Rattle.graph.specs.Forest.{Labelled, Each, empty, also, EndsBelow}
-use Rattle.state.specs.Arrays.{cells}
-use Rattle.state.proofs.Built.{each-reverse}
+use Rattle.book_state.specs.Arrays.{cells}
+use Rattle.book_state.proofs.Built.{each-reverse}
 use Rattle.promises.specs.History.{Stored, History, chunkIn, ofSlides, forwardLinks, backwardLinks}
 use Rattle.promises.proofs.Agrees.{Falling, none, next, Sensible}
 use Rattle.promises.proofs.BySlide.{labelBy}

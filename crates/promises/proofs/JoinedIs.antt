@@ -17,12 +17,12 @@ use Rattle.graph.proofs.Forests.{walk-ends, walk-short}
 use Rattle.graph.proofs.Cut.{each-at-least, cut-is-forest, walk-at-short, walk-at-ends}
 use Rattle.slides.proofs.Slides.{place-rest}
 use Rattle.forest.specs.Arrays.{parentIn, parentAtIn}
-use Rattle.state.specs.declared.Book.{Book}
-use Rattle.state.specs.Arrays.{most}
-use Rattle.state.specs.Order.{inOrder}
-use Rattle.joined.specs.Joined as calls
-use Rattle.state.specs.Numbers.{areCells, firstOf}
-use Rattle.joined.specs.Joined.{cutOf, stepLinks, fourWalks, joinedOf, joinedBy, joinedNumber}
+use Rattle.book_state.specs.declared.Book.{Book}
+use Rattle.book_state.specs.Arrays.{most}
+use Rattle.book_state.specs.Order.{inOrder}
+use Rattle.book_joined.specs.Joined as calls
+use Rattle.book_state.specs.Numbers.{areCells, firstOf}
+use Rattle.book_joined.specs.Joined.{cutOf, stepLinks, fourWalks, joinedOf, joinedBy, joinedNumber}
 use Rattle.promises.specs.History.{History, clockIn, openSlideIn, windowOf, backwardLinks}
 use Rattle.promises.specs.Panel.{State, ours}
 use Rattle.promises.specs.Demands.{cutIn, forwardSteps, backwardSteps, WalksEnd, Joined}
@@ -30,7 +30,7 @@ use Rattle.promises.proofs.Agrees.{Sensible, Agrees}
 use Rattle.promises.proofs.InOrder.{agrees-in-order}
 use Rattle.promises.proofs.Forests.{forward-ends, backward-ends}
 use Rattle.promises.proofs.Keeps.{keeps}
-use Rattle.joined.proofs.Steps.{Steps, forward-steps, backward-steps}
+use Rattle.book_joined.proofs.Steps.{Steps, forward-steps, backward-steps}
 use Rattle.promises.proofs.Steps.{forest-chain, chained-both}
 use Rattle.promises.proofs.Split.{wide, backward-falls, backwardPart, forwardPart, window-parts, parts-window}
 

@@ -15,9 +15,9 @@ use Rattle.settings.specs.declared.Settings.{Settings}
 use Rattle.cells.specs.Cell.{sectors, lorryCell}
 use Rattle.cells.specs.Cell.Laws.{lorry-is-cell}
 use Rattle.slides.specs.Clock.{notBefore}
-use Rattle.state.specs.Arrays.{cells}
-use Rattle.chunks.specs.Time.{movedBook}
-use Rattle.state.specs.Numbers.{logPlaces}
+use Rattle.book_state.specs.Arrays.{cells}
+use Rattle.book_time.specs.Time.{movedBook}
+use Rattle.book_state.specs.Numbers.{logPlaces}
 use Rattle.book.specs.Calls.{openingNumber, openingBy, openingOf, linkNumber, linkStored, linkBy, linkOf, clockBy, clockOf}
 use Rattle.promises.specs.History.{
   Call,
@@ -40,7 +40,7 @@ use Rattle.promises.specs.Panel.{ours, State, stateOf, gives, after}
 use Rattle.promises.specs.Demands.{roomIn, Told}
 use Rattle.promises.proofs.Agrees.{Agrees}
 use Rattle.promises.proofs.Numbers.{has-front, has-long}
-use Rattle.state.proofs.Checks.{first-passed, unless-passed}
+use Rattle.book_state.proofs.Checks.{first-passed, unless-passed}
 use Rattle.book.proofs.Taken.{Taken, taken}
 use Rattle.promises.proofs.NumbersAgree.{stored-agrees, link-number, clock-number}
 use Rattle.promises.proofs.KeptByOpening.{opening-agrees}

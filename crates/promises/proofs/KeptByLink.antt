@@ -19,9 +19,9 @@ use Rattle.graph.specs.Link.{Link}
 use Rattle.graph.specs.Forest.{Labelled, forestOf}
 use Rattle.graph.proofs.Cut.{label-bounded}
 use Rattle.forest.specs.Arrays.{labelIn, freshLabels}
-use Rattle.state.specs.Arrays.{cells, most, Arrays, united}
-use Rattle.state.specs.Log.{startOf}
-use Rattle.state.specs.Numbers.{logPlaces}
+use Rattle.book_state.specs.Arrays.{cells, most, Arrays, united}
+use Rattle.book_state.specs.Log.{startOf}
+use Rattle.book_state.specs.Numbers.{logPlaces}
 use Rattle.book.specs.Calls.{linkStored}
 use Rattle.promises.specs.History.{Stored, History, openSlideIn, chunkIn, howMany, slideLinks, linksOf, withLink, forwardLinks, backwardLinks}
 use Rattle.promises.specs.Panel.{State, stateOf}
@@ -31,8 +31,8 @@ use Rattle.promises.proofs.Numbers.{has-places, has-long}
 use Rattle.promises.proofs.Lists.{taken-one, left-one}
 use Rattle.promises.proofs.BySlide.{labelBy}
 use Rattle.promises.proofs.Forests.{forward-labels, forward-ends}
-use Rattle.chunks.proofs.Moves.{zeros}
-use Rattle.state.proofs.Built.{Holds, holds-more}
+use Rattle.book_time.proofs.Moves.{zeros}
+use Rattle.book_state.proofs.Built.{Holds, holds-more}
 use Rattle.promises.proofs.Log.{paired-long, paired, links-other-spot, links-stored}
 use Rattle.promises.proofs.Spots.{spot-below, spot-open, spot-apart}
 

@@ -17,17 +17,17 @@ use Rattle.settings.specs.Settings.{takenNumber}
 use Rattle.settings.specs.declared.Settings.{Settings}
 use Rattle.slides.specs.Clock.{started}
 use Rattle.forest.specs.Arrays.{held}
-use Rattle.state.specs.Arrays.{most, freshArrays}
-use Rattle.state.specs.Log.{linksFrom}
-use Rattle.chunks.specs.Time.{emptied}
-use Rattle.state.specs.Numbers.{has, logPlaces}
+use Rattle.book_state.specs.Arrays.{most, freshArrays}
+use Rattle.book_state.specs.Log.{linksFrom}
+use Rattle.book_time.specs.Time.{emptied}
+use Rattle.book_state.specs.Numbers.{has, logPlaces}
 use Rattle.promises.specs.History.{History, clockIn, chunkIn, ofSlides, howMany, slideLinks, begun, forwardLinks, backwardLinks}
 use Rattle.promises.specs.Panel.{State}
 use Rattle.promises.proofs.Agrees.{none, Sensible, Live, spotIn, Kept, Agrees}
 use Rattle.promises.proofs.Numbers.{has-front}
-use Rattle.chunks.proofs.Moves.{zeros}
+use Rattle.book_time.proofs.Moves.{zeros}
 use Rattle.promises.proofs.BySlide.{labelBy}
-use Rattle.state.proofs.Built.{holds-fresh}
+use Rattle.book_state.proofs.Built.{holds-fresh}
 
 -- a slide without links is kept where its count is 0
 pub kept-none : (h : History) (s : State) (t : ℕ) → slideLinks t (h .links) ≡ [] → getD (s .book .counts) (spotIn h t) 0 ≡ 0 → Kept h s t

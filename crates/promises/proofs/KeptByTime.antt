@@ -14,20 +14,20 @@ use lib.Dec.{eqb}
 use borrow.Author.Tests.{eqb-true}
 use Rattle.slides.specs.Clock.{notBefore, slideOf, openSlide, chunkOf, movedTo}
 use Rattle.slides.proofs.Slides.{moved-t0, moved-b, moved-time, moved-n, moved-slide, slide-later, InRange, in-range, moved-in-range}
-use Rattle.state.specs.Arrays.{freshArrays, unitedAll}
-use Rattle.state.specs.Log.{halfOf}
-use Rattle.chunks.specs.Time.{cleared, emptied, stayed, backwardOf, turned, movedBook}
+use Rattle.book_state.specs.Arrays.{freshArrays, unitedAll}
+use Rattle.book_state.specs.Log.{halfOf}
+use Rattle.book_time.specs.Time.{cleared, emptied, stayed, backwardOf, turned, movedBook}
 use Rattle.promises.specs.History.{History, clockIn, openSlideIn, chunkIn, ofSlides, withTime, forwardLinks, backwardLinks}
 use Rattle.promises.specs.Panel.{State}
 use Rattle.promises.proofs.Agrees.{Sensible, Live, Kept, Agrees}
 use Rattle.promises.proofs.Lists.{fails, falling-later, none-later}
 use Rattle.promises.proofs.InOrder.{sensible-range}
-use Rattle.chunks.proofs.Moves.{moved-cases, cleared-there}
+use Rattle.book_time.proofs.Moves.{moved-cases, cleared-there}
 use Rattle.promises.proofs.Counts.{cleared-before, cleared-long, cleared-few}
 use Rattle.promises.proofs.BySlide.{labelBy}
 use Rattle.promises.proofs.Forests.{backward-ends}
 use Rattle.promises.proofs.Spots.{chunk-later, place-in}
-use Rattle.state.proofs.Built.{Holds, holds-fresh, holds-all}
+use Rattle.book_state.proofs.Built.{Holds, holds-fresh, holds-all}
 use Rattle.promises.proofs.ChunkEnds.{chunk-ends}
 use Rattle.promises.proofs.KeptByOpening.{kept-none, fresh-forest, emptied-agrees}
 

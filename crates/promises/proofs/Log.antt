@@ -13,8 +13,8 @@ use lib.ListN.{length, getD, set, length-set}
 use lib.Seq.{getD-set-same, getD-set-other}
 use borrow.Author.Tests.{lt-ltb}
 use Rattle.graph.specs.Link.{Link}
-use Rattle.state.specs.Arrays.{cells}
-use Rattle.state.specs.Log.{startOf, keep, pairAt, linksFrom}
+use Rattle.book_state.specs.Arrays.{cells}
+use Rattle.book_state.specs.Log.{startOf, keep, pairAt, linksFrom}
 
 -- logs that agree on the places of the links hold the same links
 links-same : (log log′ : List ℕ) (at n : ℕ) → ((i : ℕ) → at ≤ i → i < at + (n + n) → getD log i 0 ≡ getD log′ i 0)

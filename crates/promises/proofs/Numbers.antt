@@ -5,7 +5,7 @@ use mathlib.Core.Bool.{Bool, true, false, false≢true}
 use mathlib.Core.List.{List, [], _∷_, _++_}
 use native.Mathlib.Omega.{arith}
 use lib.ListN.{length, replicate}
-use Rattle.state.specs.Numbers.{firstOf, unless, has}
+use Rattle.book_state.specs.Numbers.{firstOf, unless, has}
 
 -- ---- the first number that is not 0
 

@@ -15,17 +15,17 @@ use borrow.Author.Tests.{eq-eqb, ne-eqb, eqb-true}
 use Rattle.settings.specs.declared.Settings.{Settings}
 use Rattle.slides.specs.Clock.{notBefore, slideOf, placeOf}
 use Rattle.slides.proofs.Slides.{slide-later, place-rest}
-use Rattle.state.specs.declared.Book.{Book}
-use Rattle.state.specs.Log.{halfOf, spotOf, stored}
-use Rattle.state.specs.Numbers.{firstOf, unless, areCells}
-use Rattle.joined.specs.Joined.{joinedNumber, joinedBy, joinedOf}
+use Rattle.book_state.specs.declared.Book.{Book}
+use Rattle.book_state.specs.Log.{halfOf, spotOf, stored}
+use Rattle.book_state.specs.Numbers.{firstOf, unless, areCells}
+use Rattle.book_joined.specs.Joined.{joinedNumber, joinedBy, joinedOf}
 use Rattle.book.specs.Calls.{openingNumber, openingBy, openingOf, linkNumber, linkStored, linkBy, linkOf, clockNumber, clockBy, clockOf}
 use Rattle.promises.specs.History.{Call, opening, link, clock, History, clockIn, chunkIn, howMany, slideLinks, numberIn}
 use Rattle.promises.specs.Panel.{ours, State, gives}
 use Rattle.promises.specs.Demands.{roomIn}
 use Rattle.promises.proofs.Agrees.{Agrees}
 use Rattle.promises.proofs.Numbers.{first-last, first-under}
-use Rattle.state.proofs.Checks.{passes}
+use Rattle.book_state.proofs.Checks.{passes}
 use Rattle.promises.proofs.Lists.{fails, none-later}
 use Rattle.promises.proofs.InOrder.{sensible-range, agrees-in-order}
 

@@ -13,18 +13,18 @@ use lib.Seq.{drop-at, drop-set-lt}
 use Rattle.settings.specs.declared.Settings.{Settings}
 use Rattle.slides.specs.Clock.{slideOf, chunkOf, placeOf}
 use Rattle.slides.proofs.Slides.{InRange, in-range, moved-n, moved-place, moved-slide, place-below}
-use Rattle.state.specs.declared.Book.{Book}
-use Rattle.state.specs.Log.{halfOf, spotOf, startOf}
-use Rattle.state.specs.Order.{inOrder, inOrderOf}
-use Rattle.state.specs.Numbers.{logPlaces}
-use Rattle.joined.specs.Joined.{joinedNumber, joinedBy, joinedOf}
+use Rattle.book_state.specs.declared.Book.{Book}
+use Rattle.book_state.specs.Log.{halfOf, spotOf, startOf}
+use Rattle.book_state.specs.Order.{inOrder, inOrderOf}
+use Rattle.book_state.specs.Numbers.{logPlaces}
+use Rattle.book_joined.specs.Joined.{joinedNumber, joinedBy, joinedOf}
 use Rattle.book.specs.Calls.{Outcome, openingNumber, openingBy, openingOf, linkNumber, linkStored, linkBy, linkOf, clockNumber, clockBy, clockOf}
-use Rattle.trail.specs.Chain.{ChainOutcome, chainNumber, chainBy, chainOf}
+use Rattle.chain.specs.Chain.{ChainOutcome, chainNumber, chainBy, chainOf}
 use Rattle.promises.specs.History.{Call, opening, link, clock}
 use Rattle.promises.specs.Panel.{ours, State, gives, givesChain}
 use Rattle.promises.specs.Demands.{Refused}
 use Rattle.book.proofs.Taken.{Taken, taken}
-use Rattle.chunks.proofs.Moves.{moved-clock, moved-count}
+use Rattle.book_time.proofs.Moves.{moved-clock, moved-count}
 
 and-left : (a b : Bool) → (a && b) ≡ true → a ≡ true
 and-left a b e = and-eq-true-iff a b .0 e .0

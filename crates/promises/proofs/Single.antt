@@ -4,8 +4,8 @@
 use Prim.Native.Nat.{ℕ}
 use mathlib.Core.Path.{_≡_, refl, sym, _∙_}
 use mathlib.Core.List.{List}
-use Rattle.lists.proofs.Listing.{one-listing}
-use Rattle.crossing.proofs.Joined.{one-answer}
+use Rattle.buckets.proofs.Listing.{one-listing}
+use Rattle.forest_cross.proofs.Joined.{one-answer}
 use Rattle.book.specs.declared.Answer.{Answer}
 use Rattle.book.specs.Calls.{Outcome, Gives}
 use Rattle.text.specs.Output.{Written}

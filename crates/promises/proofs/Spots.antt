@@ -8,7 +8,7 @@ use native.Mathlib.Nat.{le-trans, mod-lt, div-add-mod', div-mul-le-self, le-div-
 use Rattle.slides.specs.Clock.{openSlide, chunkOf, placeOf}
 use Rattle.slides.specs.declared.Clock.{Clock}
 use Rattle.slides.proofs.Slides.{InRange, place-rest}
-use Rattle.state.specs.Log.{halfOf, spotOf}
+use Rattle.book_state.specs.Log.{halfOf, spotOf}
 use Rattle.promises.specs.History.{History, clockIn, openSlideIn}
 use Rattle.promises.proofs.Agrees.{Sensible, Live, spotIn}
 use Rattle.promises.proofs.InOrder.{sensible-range}

@@ -9,7 +9,7 @@ use Rattle.graph.specs.Forest.{climb, walk, Labelled, forestOf, EndsBelow}
 use Rattle.graph.proofs.Chains.{chained-one, chained-carry, chained-left, chained-right, linked-append-cases}
 use Rattle.graph.proofs.Walks.{climb-way}
 use Rattle.graph.proofs.Forests.{grown, same-root}
-use Rattle.joined.proofs.Steps.{Steps, steps-chain}
+use Rattle.book_joined.proofs.Steps.{Steps, steps-chain}
 
 -- so the steps of a forest of links chain the cells that the links chain
 pub forest-chain : {k most : ℕ} (enough : k ≤ most) {xs : List Labelled} → EndsBelow (2 ^ k) xs → {ls : List Link} → Steps (forestOf most xs .parent) 0 ls →

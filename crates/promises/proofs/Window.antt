@@ -19,8 +19,8 @@ use Rattle.graph.proofs.Chains.{Relinks, linked-left, linked-right, linked-appe
 use Rattle.graph.proofs.Forests.{nothing-linked}
 use Rattle.slides.specs.Clock.{openSlide}
 use Rattle.slides.proofs.Slides.{place-rest}
-use Rattle.state.specs.declared.Book.{Book}
-use Rattle.state.specs.Log.{labelled}
+use Rattle.book_state.specs.declared.Book.{Book}
+use Rattle.book_state.specs.Log.{labelled}
 use Rattle.window.specs.Window.{windowSlides, linksOfAge, linksFromAge, windowLinks, linksFrom}
 use Rattle.promises.specs.History.{History, clockIn, openSlideIn, slideLinks, linksOf, inWindow, windowAt}
 use Rattle.promises.specs.Panel.{State}

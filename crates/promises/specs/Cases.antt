@@ -12,18 +12,18 @@ use Rattle.graph.specs.Forest.{climb, atLeast}
 use Rattle.cells.specs.Cell.{lorryCellOver}
 use Rattle.slides.specs.Clock.{notBefore, slideOf, placeOf, movedTo, clockInRange}
 use Rattle.forest.specs.Arrays.{countFrom}
-use Rattle.soundness.specs.Sound.{every}
-use Rattle.state.specs.declared.Book.{Book}
-use Rattle.joined.specs.declared.JoinedAnswer.{JoinedAnswer}
-use Rattle.state.specs.Arrays.{united, unitedAll}
-use Rattle.state.specs.Log.{linksFrom, chunkLinks, stored}
-use Rattle.state.specs.Order.{inOrder, inOrderOf}
-use Rattle.chunks.specs.Time.{cleared, emptied, stayed, backwardOf, turned, movedBy, movedBook}
-use Rattle.state.specs.Numbers.{firstOf, has, logPlaces}
-use Rattle.joined.specs.Joined.{forwardSteps, backwardSteps, stepLinks, fourWalks, joinedNumber, joinedBy, joinedOf}
+use Rattle.forest_check.specs.Sound.{every}
+use Rattle.book_state.specs.declared.Book.{Book}
+use Rattle.book_joined.specs.declared.JoinedAnswer.{JoinedAnswer}
+use Rattle.book_state.specs.Arrays.{united, unitedAll}
+use Rattle.book_state.specs.Log.{linksFrom, chunkLinks, stored}
+use Rattle.book_state.specs.Order.{inOrder, inOrderOf}
+use Rattle.book_time.specs.Time.{cleared, emptied, stayed, backwardOf, turned, movedBy, movedBook}
+use Rattle.book_state.specs.Numbers.{firstOf, has, logPlaces}
+use Rattle.book_joined.specs.Joined.{forwardSteps, backwardSteps, stepLinks, fourWalks, joinedNumber, joinedBy, joinedOf}
 use Rattle.book.specs.Calls.{Outcome, openingNumber, openingBy, openingOf, linkNumber, linkStored, linkBy, linkOf, clockNumber, clockBy, clockOf}
 use Rattle.window.specs.Window.{linksFromAge, windowLinks, highest}
-use Rattle.trail.specs.Chain.{ChainOutcome, chainPlaces, chainNumber, chainBy, chainOf}
+use Rattle.chain.specs.Chain.{ChainOutcome, chainPlaces, chainNumber, chainBy, chainOf}
 
 -- a call, or a question with the answer that document 01 gives
 pub data Step : Type 0 where

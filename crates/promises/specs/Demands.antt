@@ -13,15 +13,15 @@ use Rattle.graph.specs.Forest.{Forest, forestOf, walk, walkAt, parentAt}
 use Rattle.settings.specs.Settings.{takenNumber}
 use Rattle.settings.specs.declared.Settings.{Settings}
 use Rattle.slides.specs.Clock.{notBefore, slideOf}
-use Rattle.state.specs.declared.Book.{Book}
-use Rattle.joined.specs.declared.JoinedAnswer.{JoinedAnswer}
-use Rattle.state.specs.Arrays.{most}
-use Rattle.state.specs.Numbers.{firstOf, unless, has, logPlaces, areCells}
-use Rattle.linkfile.specs.Format.{readNumber, readOf, writeNumber, outputOf}
-use Rattle.playing.specs.Play.{Play, playFrom, recordGives}
+use Rattle.book_state.specs.declared.Book.{Book}
+use Rattle.book_joined.specs.declared.JoinedAnswer.{JoinedAnswer}
+use Rattle.book_state.specs.Arrays.{most}
+use Rattle.book_state.specs.Numbers.{firstOf, unless, has, logPlaces, areCells}
+use Rattle.file.specs.Format.{readNumber, readOf, writeNumber, outputOf}
+use Rattle.file_play.specs.Play.{Play, playFrom, recordGives}
 use Rattle.listing.specs.Listing.{listingOf}
-use Rattle.trail.specs.declared.ChainAnswer.{ChainAnswer}
-use Rattle.trail.specs.Chain.{ChainOutcome, chainPlaces}
+use Rattle.chain.specs.declared.ChainAnswer.{ChainAnswer}
+use Rattle.chain.specs.Chain.{ChainOutcome, chainPlaces}
 use Rattle.promises.specs.History.{
   Call,
   opening,

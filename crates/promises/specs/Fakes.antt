@@ -6,12 +6,12 @@ use mathlib.Core.List.{List, _∷_}
 use lib.Dec.{ltb}
 use lib.ListN.{drop}
 use Rattle.slides.specs.Clock.{slideOf}
-use Rattle.state.specs.declared.Book.{Book}
-use Rattle.joined.specs.declared.JoinedAnswer.{JoinedAnswer}
-use Rattle.joined.specs.Joined.{joinedOf}
+use Rattle.book_state.specs.declared.Book.{Book}
+use Rattle.book_joined.specs.declared.JoinedAnswer.{JoinedAnswer}
+use Rattle.book_joined.specs.Joined.{joinedOf}
 use Rattle.book.specs.Calls.{Outcome, openingOf, linkNumber, linkOf, clockOf}
-use Rattle.trail.specs.declared.ChainAnswer.{ChainAnswer}
-use Rattle.trail.specs.Chain.{ChainOutcome, chainOf}
+use Rattle.chain.specs.declared.ChainAnswer.{ChainAnswer}
+use Rattle.chain.specs.Chain.{ChainOutcome, chainOf}
 use Rattle.promises.specs.Panel.{Panel}
 
 -- it refuses everything

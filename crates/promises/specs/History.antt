@@ -12,7 +12,7 @@ use Rattle.settings.specs.declared.Settings.{Settings}
 use Rattle.cells.specs.Cell.{lorryCell}
 use Rattle.slides.specs.Clock.{notBefore, slideOf, openSlide}
 use Rattle.slides.specs.declared.Clock.{Clock}
-use Rattle.state.specs.Numbers.{firstOf, unless, areCells}
+use Rattle.book_state.specs.Numbers.{firstOf, unless, areCells}
 
 -- what a panel program can ask for that changes a book
 pub data Call : Type 0 where

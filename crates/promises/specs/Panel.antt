@@ -3,11 +3,11 @@
 use Prim.Native.Nat.{ℕ}
 use mathlib.Core.List.{List, [], _∷_}
 use Rattle.settings.specs.declared.Settings.{Settings}
-use Rattle.state.specs.declared.Book.{Book}
-use Rattle.joined.specs.declared.JoinedAnswer.{JoinedAnswer}
-use Rattle.joined.specs.Joined.{joinedOf}
+use Rattle.book_state.specs.declared.Book.{Book}
+use Rattle.book_joined.specs.declared.JoinedAnswer.{JoinedAnswer}
+use Rattle.book_joined.specs.Joined.{joinedOf}
 use Rattle.book.specs.Calls.{Outcome, openingOf, linkOf, clockOf}
-use Rattle.trail.specs.Chain.{ChainOutcome, chainOf}
+use Rattle.chain.specs.Chain.{ChainOutcome, chainOf}
 use Rattle.promises.specs.History.{Call, opening, link, clock}
 
 pub record Panel : Type 0 where

@@ -10,36 +10,36 @@ use Rattle.cells.specs.Cell.{mirror, lorryCell}
 use Rattle.slides.specs.Clock.{notBefore, slideOf, openSlide, chunkOf, placeOf, started, movedTo, clockInRange}
 use Rattle.slides.specs.declared.Clock.{Clock}
 use Rattle.forest.specs.Arrays.{freshParents, freshSizes, freshLabels, walkOf, walkAtOf, rootsOf, rootsAtOf}
-use Rattle.uniting.specs.United.{hangRoots, hangOf, hungParents, hungSizes, hungLabels, United}
-use Rattle.uniting.specs.declared.Hang.{Hang}
-use Rattle.soundness.specs.Sound.{every, within, soundOf, labelsWithin}
-use Rattle.lists.specs.Listed as lists
-use Rattle.crossing.specs.Across.{JoinedAcross}
-use Rattle.linkfile.specs.Format.{readOf, writeNumber, outputOf, halfAt, wordAt}
-use Rattle.playing.specs.declared.Played.{Played}
-use Rattle.playing.specs.Play.{Plays, playFrom}
-use Rattle.groups.specs.Groups.{groupsOf}
+use Rattle.forest_unite.specs.United.{hangRoots, hangOf, hungParents, hungSizes, hungLabels, United}
+use Rattle.forest_unite.specs.declared.Hang.{Hang}
+use Rattle.forest_check.specs.Sound.{every, within, soundOf, labelsWithin}
+use Rattle.buckets.specs.Listed as lists
+use Rattle.forest_cross.specs.Across.{JoinedAcross}
+use Rattle.file.specs.Format.{readOf, writeNumber, outputOf, halfAt, wordAt}
+use Rattle.file_play.specs.declared.Played.{Played}
+use Rattle.file_play.specs.Play.{Plays, playFrom}
+use Rattle.window_groups.specs.Groups.{groupsOf}
 use Rattle.text.specs.Output.{Written}
 use Rattle.text.specs.Text.{fields, line}
 use Rattle.listing.specs.declared.Listed.{Listed}
 use Rattle.listing.specs.Listing.{Lists, listingOf}
-use Rattle.state.specs.declared.Book.{Book}
+use Rattle.book_state.specs.declared.Book.{Book}
 use Rattle.book.specs.declared.Answer.{Answer}
 use Rattle.book.specs.declared.lent.LentAnswer.{LentAnswer}
-use Rattle.state.specs.Arrays.{Arrays, unitedAll}
-use Rattle.state.specs.Log.{halfOf, spotOf, storedIn}
-use Rattle.state.specs.Order.{neverOpened, bookOf, inOrderOf}
+use Rattle.book_state.specs.Arrays.{Arrays, unitedAll}
+use Rattle.book_state.specs.Log.{halfOf, spotOf, storedIn}
+use Rattle.book_state.specs.Order.{neverOpened, bookOf, inOrderOf}
 use Rattle.window.specs.Window.{windowLinks}
 use Rattle.window.specs.Gathered.{Put, linksIn}
 use Rattle.window.specs.Agree.{agreeFrom}
-use Rattle.chunks.specs.Time.{Fresh, movedBook}
-use Rattle.joined.specs.Joined.{joinedOf}
+use Rattle.book_time.specs.Time.{Fresh, movedBook}
+use Rattle.book_joined.specs.Joined.{joinedOf}
 use Rattle.book.specs.Calls.{Outcome, Gives, GivesLent, openingOf, linkOf, clockOf}
 use Rattle.graph.specs.Trail.{trailOf}
-use Rattle.fewest.specs.Lists.{linksOf}
-use Rattle.fewest.specs.Best.{Given}
-use Rattle.trail.specs.declared.ChainAnswer.{ChainAnswer}
-use Rattle.trail.specs.Chain.{GivesChain, chainOf}
+use Rattle.chain_fewest.specs.Lists.{linksOf}
+use Rattle.chain_fewest.specs.Best.{Given}
+use Rattle.chain.specs.declared.ChainAnswer.{ChainAnswer}
+use Rattle.chain.specs.Chain.{GivesChain, chainOf}
 
 -- two results that are allowed are equal
 abbrev pub AtMostOne : {A : Type 0} → (A → Type 0) → Type 0

@@ -6,7 +6,7 @@ use native.Mathlib.Omega.{arith}
 use borrow.Author.Tests.{eq-eqb, ne-eqb}
 use Rattle.forest.specs.declared.Walk.{Walk}
 use Rattle.forest.specs.Arrays.{walkAtOf}
-use Rattle.state.specs.Arrays.{most}
+use Rattle.book_state.specs.Arrays.{most}
 use Rattle.window.specs.Agree.{agreeFrom}
 
 module _ (ps ls : List ℕ) (one other : ℕ) where

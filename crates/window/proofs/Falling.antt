@@ -11,7 +11,7 @@ use lib.ListN.{length, take}
 use Rattle.graph.specs.Link.{Link}
 use Rattle.graph.specs.Forest.{Labelled, atLeast, Each, empty, also, NeverRise, start, lowest}
 use Rattle.graph.proofs.Cut.{each-map}
-use Rattle.state.specs.Log.{labelled}
+use Rattle.book_state.specs.Log.{labelled}
 use Rattle.window.specs.Falls.{Falls, none, next}
 
 pub falls-higher : {m n : ℕ} {xs : List Labelled} → m ≤ n → Falls m xs → Falls n xs

@@ -9,9 +9,9 @@ use native.Mathlib.Nat.{zero-add}
 use lib.ListN.{length, take, drop, length-map}
 use lib.Seq.{sets, sets-eq, take-at}
 use Rattle.graph.specs.Forest.{Labelled}
-use Rattle.state.specs.declared.Book.{Book}
-use Rattle.state.specs.Order.{inOrder}
-use Rattle.state.specs.Numbers.{has, logPlaces}
+use Rattle.book_state.specs.declared.Book.{Book}
+use Rattle.book_state.specs.Order.{inOrder}
+use Rattle.book_state.specs.Numbers.{has, logPlaces}
 use Rattle.window.specs.Window.{windowLinks}
 use Rattle.window.specs.Gathered.{onesOf, othersOf, labelsOf, Put, linksOn, linksIn}
 use Rattle.window.proofs.WindowLinks.{window-few}

@@ -6,9 +6,9 @@ use mathlib.Core.List.{List, [], _∷_, reverse, reverseAux}
 use native.Mathlib.Omega.{arith}
 use lib.ListN.{getD}
 use Rattle.graph.specs.Forest.{Labelled}
-use Rattle.uniting.specs.United.{United}
-use Rattle.state.specs.Arrays.{most, Arrays, arraysOf, united, unitedAll}
-use Rattle.state.specs.Log.{labelled}
+use Rattle.forest_unite.specs.United.{United}
+use Rattle.book_state.specs.Arrays.{most, Arrays, arraysOf, united, unitedAll}
+use Rattle.book_state.specs.Log.{labelled}
 use Rattle.window.specs.Gathered.{linksOn, linksIn}
 
 -- the first link first

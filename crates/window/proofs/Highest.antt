@@ -14,7 +14,7 @@ use borrow.Author.Tests.{lt-ltb, le-ltb}
 use Rattle.graph.specs.Link.{Linked, here, there, Chained, same, chains}
 use Rattle.graph.specs.Forest.{Labelled, atLeast}
 use Rattle.graph.proofs.Chains.{chained-relink, chained-alone, chains-true, chains-false}
-use Rattle.state.specs.declared.Book.{Book}
+use Rattle.book_state.specs.declared.Book.{Book}
 use Rattle.window.specs.Window.{windowLinks, linksFrom, highest}
 use Rattle.window.proofs.WindowLinks.{window-all, window-none}
 

@@ -8,9 +8,9 @@ use native.Mathlib.Nat.{le-trans}
 use lib.Dec.{ltb}
 use lib.ListN.{length, getD, length-map}
 use Rattle.graph.specs.Link.{Link}
-use Rattle.state.specs.declared.Book.{Book}
-use Rattle.state.specs.Arrays.{cells}
-use Rattle.state.specs.Log.{keep, pairAt, labelled, linksFrom}
+use Rattle.book_state.specs.declared.Book.{Book}
+use Rattle.book_state.specs.Arrays.{cells}
+use Rattle.book_state.specs.Log.{keep, pairAt, labelled, linksFrom}
 use Rattle.window.specs.Window.{slideLinks}
 
 pub kept-front : (label : ℕ) (l : Link) (ls : List Link)

@@ -8,8 +8,8 @@ use native.Mathlib.Nat.{add-zero, add-suc, suc-add}
 use lib.ListN.{length, getD, set, length-append}
 use lib.Seq.{sets}
 use Rattle.graph.specs.Forest.{Labelled}
-use Rattle.state.specs.declared.Book.{Book}
-use Rattle.state.specs.Log.{keep, pairAt, labelled, linksFrom}
+use Rattle.book_state.specs.declared.Book.{Book}
+use Rattle.book_state.specs.Log.{keep, pairAt, labelled, linksFrom}
 use Rattle.window.specs.Window.{windowSlides, slideLinks, linksFromAge, windowLinks}
 use Rattle.window.specs.Gathered.{onesOf, othersOf, labelsOf, Put}
 use Rattle.window.proofs.Kept.{kept-front, kept-few, slide-few}

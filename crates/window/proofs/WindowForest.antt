@@ -16,9 +16,9 @@ use Rattle.graph.specs.Forest.{Forest, Labelled, climb, walkAt, forestOf, atLea
 use Rattle.graph.proofs.Chains.{chained-relink, chains-true, chains-false}
 use Rattle.graph.proofs.Cut.{same-root-at}
 use Rattle.forest.specs.Arrays.{parentAtIn}
-use Rattle.state.specs.declared.Book.{Book}
-use Rattle.state.specs.Arrays.{cells, most, arraysOf, freshArrays, unitedAll}
-use Rattle.state.proofs.Built.{each-reverse, Holds, holds-all}
+use Rattle.book_state.specs.declared.Book.{Book}
+use Rattle.book_state.specs.Arrays.{cells, most, arraysOf, freshArrays, unitedAll}
+use Rattle.book_state.proofs.Built.{each-reverse, Holds, holds-all}
 use Rattle.window.specs.Window.{windowLinks, linksFrom, highest}
 use Rattle.window.specs.Falls.{Falls}
 use Rattle.window.specs.Agree.{agreeAt, agreeFrom}

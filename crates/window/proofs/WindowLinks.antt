@@ -13,12 +13,12 @@ use Rattle.graph.specs.Link.{Link}
 use Rattle.graph.specs.Forest.{Labelled, Each, empty, also, EndsBelow}
 use Rattle.graph.proofs.Cut.{each-map, all-at-least}
 use Rattle.slides.specs.Clock.{openSlide}
-use Rattle.state.specs.declared.Book.{Book}
-use Rattle.state.specs.Arrays.{cells}
-use Rattle.state.specs.Log.{Readable, pairAt, labelled, linksFrom}
-use Rattle.state.specs.Order.{inOrder}
-use Rattle.state.specs.Numbers.{has, logPlaces}
-use Rattle.state.proofs.Checks.{readable}
+use Rattle.book_state.specs.declared.Book.{Book}
+use Rattle.book_state.specs.Arrays.{cells}
+use Rattle.book_state.specs.Log.{Readable, pairAt, labelled, linksFrom}
+use Rattle.book_state.specs.Order.{inOrder}
+use Rattle.book_state.specs.Numbers.{has, logPlaces}
+use Rattle.book_state.proofs.Checks.{readable}
 use Rattle.window.specs.Window as window
 use Rattle.window.specs.Window.{windowSlides, linksOfAge, slideLinks, linksFromAge, windowLinks}
 use Rattle.window.specs.Falls.{Falls, none}

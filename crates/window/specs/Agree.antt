@@ -5,7 +5,7 @@ use mathlib.Core.List.{List}
 use lib.Dec.{eqb}
 use Rattle.graph.specs.Forest.{climb}
 use Rattle.forest.specs.Arrays.{parentAtIn}
-use Rattle.state.specs.Arrays.{most}
+use Rattle.book_state.specs.Arrays.{most}
 
 -- the walks of the two at the cut end at one root
 abbrev pub agreeAt : List ℕ → List ℕ → ℕ → ℕ → ℕ → Bool

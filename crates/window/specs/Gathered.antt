@@ -6,7 +6,7 @@ use mathlib.Core.List.{List, [], _∷_, map}
 use lib.ListN.{length, getD}
 use lib.Seq.{sets}
 use Rattle.graph.specs.Forest.{Labelled}
-use Rattle.state.specs.Log.{labelled}
+use Rattle.book_state.specs.Log.{labelled}
 
 abbrev pub onesOf : List Labelled → List ℕ
 onesOf xs = map (λ x. x .link .one) xs

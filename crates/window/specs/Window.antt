@@ -9,8 +9,8 @@ use mathlib.Core.List.{List, [], _++_, map}
 use Rattle.graph.specs.Link.{Link, chains}
 use Rattle.graph.specs.Forest.{Labelled, atLeast}
 use Rattle.slides.specs.Clock.{openSlide, chunkOf, placeOf}
-use Rattle.state.specs.declared.Book.{Book}
-use Rattle.state.specs.Log.{halfOf, placeLinks, labelled}
+use Rattle.book_state.specs.declared.Book.{Book}
+use Rattle.book_state.specs.Log.{halfOf, placeLinks, labelled}
 
 -- the open slide and the n - 1 slides before it, as far as they exist
 abbrev pub windowSlides : Book → ℕ

@@ -2,13 +2,13 @@
 // highest label from which on links chain two cells.
 mod links; // links.rt: the links of a slide into arrays
 
-use state::Book;
+use book_state::Book;
 ghost use mathlib.Core.Path.{_≡_};
 ghost use mathlib.Core.List.{reverse};
 ghost use Prim.Native.Nat.{_≤_};
 ghost use lib.ListN.{length};
-ghost use Rattle.state.specs.Log.{Readable};
-ghost use Rattle.state.specs.Arrays.{arraysOf, unitedAll};
+ghost use Rattle.book_state.specs.Log.{Readable};
+ghost use Rattle.book_state.specs.Arrays.{arraysOf, unitedAll};
 ghost use Rattle.window.specs.Window.{windowLinks};
 ghost use Rattle.window.specs.Gathered.{Put, linksIn};
 ghost use Rattle.window.specs.Agree.{agreeFrom};
@@ -66,7 +66,7 @@ pub fn grow<'a>(
 {
     let mut i = 0;
     while i < count {
-        uniting::unite(parent, size, label, 10, labels[i], ones[i], others[i]);
+        forest_unite::unite(parent, size, label, 10, labels[i], ones[i], others[i]);
         i += 1;
     }
 }

@@ -5,7 +5,7 @@ ghost use mathlib.Core.List.{map, []};
 ghost use Prim.Native.Nat.{_+_, _*_, _≤_, _<_, min};
 ghost use lib.ListN.{length};
 ghost use Rattle.slides.specs.Clock.{chunkOf, placeOf};
-ghost use Rattle.state.specs.Log.{Readable, halfOf, keep, labelled, linksFrom, placeLinks};
+ghost use Rattle.book_state.specs.Log.{Readable, halfOf, keep, labelled, linksFrom, placeLinks};
 ghost use Rattle.window.specs.Gathered.{Put};
 
 // How many slides the window has while slide k is open: in a young book fewer than n exist.
@@ -33,7 +33,7 @@ pub fn put_slide<'a>(
         ⌜ Put (map (labelled label) (placeLinks (now (counts .entry)) (now (log .entry)) (halfOf (chunkOf clock slide)) (placeOf clock slide)))
         at (now (ones .entry)) (now (others .entry)) (now (labels .entry)) r (now (ones .exit)) (now (others .exit)) (now (labels .exit)) ⌝ }
 {
-    let spot = state::spots::spot(clock, slide);
+    let spot = book_state::spots::spot(clock, slide);
     put_links(
         log,
         spot * 512,

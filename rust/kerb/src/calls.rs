@@ -80,7 +80,7 @@ pub struct Listed {
     pub number: u8,
 }
 
-mod panel {
+mod library {
     use super::*;
 
     extern "C" {
@@ -166,7 +166,7 @@ mod panel {
 macro_rules! lent {
     ($call:ident, $book:ident, $pointer:ident, $($rest:expr),+) => {
         unsafe {
-            panel::$call(
+            library::$call(
                 $book.clock,
                 $book.mounting,
                 $book.counts.$pointer(),
@@ -182,7 +182,7 @@ macro_rules! lent {
 }
 
 pub fn never_opened() -> Book {
-    unsafe { panel::kerb_value_never_opened() }
+    unsafe { library::kerb_value_never_opened() }
 }
 
 pub fn opening(book: &mut Book, log: &mut [u16], settings: Settings) -> u8 {
@@ -231,7 +231,7 @@ pub fn joined(book: &Book, one: u16, other: u16) -> JoinedAnswer {
 
 pub fn chain(book: &Book, log: &[u16], one: u16, other: u16, chain: &mut [u16]) -> ChainAnswer {
     unsafe {
-        panel::kerb_value_chain(
+        library::kerb_value_chain(
             book.clone(),
             log.as_ptr(),
             log.len(),
@@ -244,12 +244,12 @@ pub fn chain(book: &Book, log: &[u16], one: u16, other: u16, chain: &mut [u16]) 
 }
 
 pub fn read(file: &[u8]) -> Reading {
-    unsafe { panel::kerb_read(file.as_ptr(), file.len()) }
+    unsafe { library::kerb_read(file.as_ptr(), file.len()) }
 }
 
 pub fn write(settings: Settings, records: &[u8], out: &mut [u8]) -> u8 {
     unsafe {
-        panel::kerb_write(
+        library::kerb_write(
             settings,
             records.as_ptr(),
             records.len(),
@@ -260,5 +260,5 @@ pub fn write(settings: Settings, records: &[u8], out: &mut [u8]) -> u8 {
 }
 
 pub fn list(file: &[u8], out: &mut [u8]) -> Listed {
-    unsafe { panel::kerb_list(file.as_ptr(), file.len(), out.as_mut_ptr(), out.len()) }
+    unsafe { library::kerb_list(file.as_ptr(), file.len(), out.as_mut_ptr(), out.len()) }
 }

@@ -3,7 +3,7 @@ use Prim.Native.Nat.{_+_, _-_, _*_, _≤_}
 use native.Mathlib.Omega.{arith}
 use mathlib.Core.Path.{_≡_}
 use Rattle.forest.specs.Arrays.{countFrom}
-use Rattle.state.specs.Arrays.{cells}
+use Rattle.book_state.specs.Arrays.{cells}
 use Rattle.text.specs.Output.{Written}
 use Rattle.listing.specs.Lines.{linesOf, toldLine}
 use Rattle.listing.proofs.Lines.{lines-more, told-short}

@@ -2,7 +2,7 @@
 use native.Mathlib.Omega.{arith}
 use borrow.Author.Needs.{needs}
 use lib.Seq.{take-length}
-use Rattle.linkfile.proofs.Parts.{copied-from}
+use Rattle.file.proofs.Parts.{copied-from}
 use Rattle.text.proofs.put_word.Statement.{statement}
 use Rattle.text.proofs.put_word.Tie as tie
 

@@ -2,7 +2,7 @@
 use Prim.Native.Nat.{_-_}
 use borrow.Author.Needs.{needs}
 use native.Mathlib.Omega.{arith}
-use Rattle.state.specs.Arrays.{arraysOf}
+use Rattle.book_state.specs.Arrays.{arraysOf}
 use Rattle.window.proofs.Growing.{Growing, growing-begin, growing-more, growing-end}
 use Rattle.window.proofs.grow.Statement.{statement}
 use Rattle.window.proofs.grow.Tie as tie

@@ -1,8 +1,8 @@
 -- `book::lent::clock` meets its contract: a refusal changes nothing, and else the time moves.
 use mathlib.Core.Path.{_≡_, refl, sym, ap, _∙_}
 use borrow.Author.Needs.{needs}
-use Rattle.state.specs.declared.Book.{Book}
-use Rattle.state.specs.Order.{bookOf}
+use Rattle.book_state.specs.declared.Book.{Book}
+use Rattle.book_state.specs.Order.{bookOf}
 use Rattle.book.specs.Calls.{clockNumberIn, clockNumber, clockBy, clockOf}
 use Rattle.book.proofs.Taken.{refused, clock-readable}
 use Rattle.book.proofs.lent.clock.Statement.{statement}

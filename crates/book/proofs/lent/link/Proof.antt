@@ -5,12 +5,12 @@ use mathlib.Core.List.{List}
 use mathlib.Core.Path.{_≡_, refl, sym, ap, _∙_}
 use borrow.Author.Needs.{needs}
 use Rattle.cells.specs.Cell.{lorryCell}
-use Rattle.state.specs.declared.Book.{Book}
-use Rattle.state.specs.Order.{bookOf, inOrder}
-use Rattle.state.specs.Log.{stored, storedIn}
-use Rattle.chunks.specs.Time.{movedBook}
+use Rattle.book_state.specs.declared.Book.{Book}
+use Rattle.book_state.specs.Order.{bookOf, inOrder}
+use Rattle.book_state.specs.Log.{stored, storedIn}
+use Rattle.book_time.specs.Time.{movedBook}
 use Rattle.book.specs.Calls.{Outcome, Gives, Room, linkNumberIn, linkNumber, linkStored, linkBy, linkOf}
-use Rattle.state.proofs.Checks.{readable}
+use Rattle.book_state.proofs.Checks.{readable}
 use Rattle.book.proofs.Taken.{refused, Taken, taken, link-room}
 use Rattle.book.proofs.lent.link.Statement.{statement}
 use Rattle.book.proofs.lent.link.Tie as tie

@@ -2,12 +2,12 @@
 use mathlib.Core.Path.{_≡_, refl, sym, ap, _∙_}
 use native.Mathlib.Omega.{arith}
 use borrow.Author.Needs.{needs}
-use Rattle.state.specs.declared.Book.{Book}
-use Rattle.state.specs.Order.{bookOf}
-use Rattle.chunks.specs.Time.{emptied}
+use Rattle.book_state.specs.declared.Book.{Book}
+use Rattle.book_state.specs.Order.{bookOf}
+use Rattle.book_time.specs.Time.{emptied}
 use Rattle.book.specs.Calls.{openingNumber, openingBy, openingOf}
 use Rattle.book.proofs.Taken.{refused, opening-room}
-use Rattle.chunks.proofs.Moves.{emptied-made}
+use Rattle.book_time.proofs.Moves.{emptied-made}
 use Rattle.book.proofs.lent.opening.Statement.{statement}
 use Rattle.book.proofs.lent.opening.Tie as tie
 

@@ -5,7 +5,7 @@ use native.Mathlib.Omega.{arith}
 use borrow.Author.Needs.{needs}
 use lib.ListN.{getD, length-set}
 use Rattle.slides.specs.Clock.{chunkOf, placeOf}
-use Rattle.state.specs.Log.{halfOf, spotOf}
+use Rattle.book_state.specs.Log.{halfOf, spotOf}
 use Rattle.book.specs.Calls.{openSpot, linkStored}
 use Rattle.book.proofs.lent.store.Statement.{statement}
 use Rattle.book.proofs.lent.store.Tie as tie

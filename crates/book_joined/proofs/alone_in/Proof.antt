@@ -1,0 +1,95 @@
+-- `joined::alone_in` meets its contract: a pass over the cells, with their parents at the cut, that stops at one that is
+-- not apart.
+use Prim.Native.Nat.{_-_}
+use mathlib.Core.Path.{_≡_, refl, sym, ap, _∙_}
+use mathlib.Core.Bool.{true, cond}
+use native.Mathlib.Omega.{arith}
+use borrow.Author.Needs.{needs}
+use borrow.Author.Tests.{not-true, not-false}
+use lib.Dec.{ltb}
+use lib.ListN.{getD}
+use Rattle.forest.specs.Arrays.{freshParents, parentAtIn}
+use Rattle.forest_check.proofs.Every.{Tested, tested-none, tested-more, tested-all, struck, kept}
+use Rattle.forest.proofs.Fill.{getD-within, length-countFrom}
+use Rattle.book_state.specs.Arrays.{cells}
+use Rattle.book_joined.specs.Alone.{apart}
+use Rattle.book_joined.proofs.alone_in.Statement.{statement}
+use Rattle.book_joined.proofs.alone_in.Tie as tie
+
+abbrev Inv-loop : tie.InvT-loop
+Inv-loop parent label cut asked cell₀ cell =
+    Tested (λ c _. apart asked c (parentAtIn parent label cut c)) (freshParents cells) true cell
+
+abbrev μ-loop : tie.MeasureT-loop
+μ-loop parent label cut asked cell₀ cell = cells - cell
+
+loop-holds : tie.Need-loop-holds Inv-loop μ-loop
+loop-holds c = tested-none
+
+cast-at : tie.Need-cast-at Inv-loop μ-loop
+cast-at c = search needs
+
+mul-apart : tie.Need-mul-apart Inv-loop μ-loop
+mul-apart c = omega arith
+
+shared-slice-read-apart : tie.Need-shared-slice-read-apart Inv-loop μ-loop
+shared-slice-read-apart c = search needs
+
+shared-slice-read-apart-2 : tie.Need-shared-slice-read-apart-2 Inv-loop μ-loop
+shared-slice-read-apart-2 c = search needs
+
+apart-requires : tie.Need-apart-requires Inv-loop μ-loop
+apart-requires c κs = search needs
+
+-- what the test says of the cell
+tested : (c : tie.After-apart Inv-loop μ-loop) →
+    (let turn = c .before .before .before in
+    let args = turn .before .before .before .before .args in
+    c .apart .result ≡ apart (args .asked) (turn .before .loop .cell) (parentAtIn (args .parent .now) (args .label .now) (args .cut) (turn .before .loop .cell)))
+tested c =
+    let turn = c .before .before .before in
+    let start = turn .before .before .before .before in
+    let args = start .args in
+    let cell = turn .before .loop .cell in
+    c .apart .ensures
+    ∙ ap (λ p. apart (args .asked) cell (cond (ltb (getD (args .label .now) cell 0) (args .cut)) cell p))
+    (getD-within (args .parent .now) cell 0 cell (rw (start .pre .0) (turn .loop-test .taken)))
+
+returns : tie.Need-returns Inv-loop μ-loop
+returns c =
+    let turn = c .before .before .before .before in
+    sym (tested-more (turn .before .loop .inv) (rw length-countFrom (turn .loop-test .taken))
+    (struck true (sym (tested (c .before)) ∙ not-true _ (c .if1 .taken)) refl) .rest)
+
+add-cell : tie.Need-add-cell Inv-loop μ-loop
+add-cell c = omega arith
+
+loop-less : tie.Need-loop-less Inv-loop μ-loop
+loop-less c = omega arith
+
+loop-again : tie.Need-loop-again Inv-loop μ-loop
+loop-again c =
+    let turn = c .before .before .before .before in
+    tested-more (turn .before .loop .inv) (rw length-countFrom (turn .loop-test .taken))
+    (kept (sym (tested (c .before)) ∙ not-false _ (c .if1 .left)) refl)
+
+returns-2 : tie.Need-returns-2 Inv-loop μ-loop
+returns-2 c = tested-all (c .before .loop .inv) (rw length-countFrom (c .loop-test .left))
+
+pub alone-in-spec : {M : Type 1} → statement M
+alone-in-spec =
+    tie.close
+    (tie.spec
+    Inv-loop
+    μ-loop
+    loop-holds
+    cast-at
+    mul-apart
+    shared-slice-read-apart
+    shared-slice-read-apart-2
+    apart-requires
+    returns
+    add-cell
+    loop-less
+    loop-again
+    returns-2)

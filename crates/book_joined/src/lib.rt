@@ -1,0 +1,230 @@
+// The joined call: four walks, always all four; and where neither forest alone decides, the crossing.
+use forest::walks;
+use slides::Clock;
+use book_state::Book;
+use book_state::order;
+ghost use mathlib.Core.Path.{_≡_};
+ghost use mathlib.Core.Bool.{false, cond, not, _&&_};
+ghost use Prim.Native.Nat.{_+_, _<_};
+ghost use lib.Dec.{eqb, ltb};
+ghost use lib.ListN.{length};
+ghost use Rattle.graph.specs.Link.{chains};
+ghost use Rattle.forest.specs.Arrays.{parentIn, parentAtIn};
+ghost use Rattle.slides.specs.Clock.{placeOf, openSlide};
+ghost use Rattle.book_state.specs.Order.{bookOf};
+ghost use Rattle.book_joined.specs.Alone.{apart, aloneIn};
+ghost use Rattle.book_joined.specs.Askable.{Askable};
+ghost use Rattle.book_joined.specs.Joined.{stepLinksOf, answerOf, joinedOf};
+
+// What joined gives.
+#[repr(C)]
+pub struct JoinedAnswer {
+    pub number: u8,
+    pub yes: bool,
+    pub steps: u8,
+}
+
+// Whether the window's links join the two cells, and the steps of the walks.
+pub fn joined(book: Book, one: u16, other: u16) -> JoinedAnswer
+    ensures { λ r. ⌜ r ≡ joinedOf book one other ⌝ }
+{
+    lent(
+        book.clock,
+        book.mounting,
+        &book.counts,
+        &book.forward_parent,
+        &book.forward_size,
+        &book.backward_parent,
+        &book.backward_size,
+        &book.backward_label,
+        one,
+        other,
+    )
+}
+
+// The same over the fields of a book, each lent where it stands: no copy of the book is made.
+pub fn lent<'a>(
+    clock: Clock,
+    mounting: u8,
+    counts: &'a [u16; 32],
+    forward_parent: &'a [u16; 1024],
+    forward_size: &'a [u16; 1024],
+    backward_parent: &'a [u16; 1024],
+    backward_size: &'a [u16; 1024],
+    backward_label: &'a [u8; 1024],
+    one: u16,
+    other: u16,
+) -> JoinedAnswer
+    ensures { λ r. ⌜ r ≡ joinedOf (bookOf clock mounting (now (counts .entry)) (now («forward_parent» .entry)) (now («forward_size» .entry)) (now («backward_parent» .entry)) (now («backward_size» .entry)) (now («backward_label» .entry))) one other ⌝ }
+{
+    let ordered = order::in_order(
+        clock,
+        mounting,
+        counts,
+        forward_parent,
+        forward_size,
+        backward_parent,
+        backward_size,
+        backward_label,
+    );
+    if !ordered {
+        return refused(1);
+    }
+    if 1024 <= one {
+        return refused(3);
+    }
+    if 1024 <= other {
+        return refused(3);
+    }
+    let cut = cut(clock);
+    answer(
+        backward_parent,
+        backward_label,
+        forward_parent,
+        cut,
+        one,
+        other,
+    )
+}
+
+// The number alone.
+fn refused(number: u8) -> JoinedAnswer
+    ensures { λ r. ⌜ r ≡ record { number = number; yes = false; steps = 0 } ⌝ }
+{
+    JoinedAnswer {
+        number,
+        yes: false,
+        steps: 0,
+    }
+}
+
+// The cut of the backward forest: one above the open slide's place.
+fn cut(clock: Clock) -> u8
+    ensures { λ r. ⌜ r ≡ placeOf clock (openSlide clock) + 1 ⌝ }
+{
+    slides::place(clock, slides::open_slide(clock)) + 1
+}
+
+// The answer for two cells, by the backward parents and labels and the forward parents.
+fn answer<'a>(
+    backward: &'a [u16],
+    label: &'a [u8],
+    forward: &'a [u16],
+    cut: u8,
+    one: u16,
+    other: u16,
+) -> JoinedAnswer
+    requires { ⌜ Askable (now backward) (now label) (now forward) cut one other ⌝ }
+    ensures { λ r. ⌜ r ≡ answerOf cut (now (backward .entry)) (now (label .entry)) (now (forward .entry)) one other ⌝ }
+{
+    let backward_one = walks::walk_at(backward, label, 10, cut, one);
+    let backward_other = walks::walk_at(backward, label, 10, cut, other);
+    let forward_one = walks::walk(forward, 10, one);
+    let forward_other = walks::walk(forward, 10, other);
+    let backward_steps = backward_one.steps + backward_other.steps;
+    let steps = backward_steps + forward_one.steps + forward_other.steps;
+    if backward_one.root == backward_other.root {
+        return JoinedAnswer {
+            number: 0,
+            yes: true,
+            steps,
+        };
+    }
+    if forward_one.root == forward_other.root {
+        return JoinedAnswer {
+            number: 0,
+            yes: true,
+            steps,
+        };
+    }
+    let yes = across(backward, label, forward, cut, one, other);
+    JoinedAnswer {
+        number: 0,
+        yes,
+        steps,
+    }
+}
+
+// Whether one cell leads across to the other, from group to group of the two forests.
+fn across<'a>(
+    backward: &'a [u16],
+    label: &'a [u8],
+    forward: &'a [u16],
+    cut: u8,
+    one: u16,
+    other: u16,
+) -> bool
+    requires { ⌜ Askable (now backward) (now label) (now forward) cut one other ⌝ }
+    ensures { λ r. ⌜ r ≡ chains (stepLinksOf cut (now (backward .entry)) (now (label .entry)) (now (forward .entry))) one other ⌝ }
+{
+    // A cell that stands alone is spared the crossing.
+    if alone(backward, label, forward, cut, one) {
+        return one == other;
+    }
+    if alone(backward, label, forward, cut, other) {
+        return one == other;
+    }
+    let backward_roots = walks::roots_at(backward, label, 10, cut);
+    let forward_roots = walks::roots(forward, 10);
+    forest_cross::joined_across(&backward_roots, &forward_roots, one, other)
+}
+
+// Whether no parent step leaves or reaches the cell, in either forest. Two passes tell, which cost less than the roots of
+// all cells; a cell that takes a step itself is spared them.
+fn alone<'a>(backward: &'a [u16], label: &'a [u8], forward: &'a [u16], cut: u8, cell: u16) -> bool
+    requires { ⌜ (length (now backward) ≡ 1024) × (length (now label) ≡ 1024) × (length (now forward) ≡ 1024) × (cell < 1024) ⌝ }
+    ensures { λ r. ⌜ r ≡ aloneIn (parentAtIn (now (backward .entry)) (now (label .entry)) cut) cell && aloneIn (parentIn (now (forward .entry))) cell ⌝ }
+{
+    if goes(backward, label, cut, cell) {
+        return false;
+    }
+    // At cut 0 every step is taken, whatever its label.
+    if goes(forward, label, 0, cell) {
+        return false;
+    }
+    if !alone_in(backward, label, cut, cell) {
+        return false;
+    }
+    alone_in(forward, label, 0, cell)
+}
+
+// Whether the cell takes a step at the cut.
+fn goes<'a>(parent: &'a [u16], label: &'a [u8], cut: u8, cell: u16) -> bool
+    ensures { λ r. ⌜ r ≡ not (eqb (parentAtIn (now (parent .entry)) (now (label .entry)) cut cell) cell) ⌝ }
+{
+    let step = walks::walk_at(parent, label, 1, cut, cell);
+    step.root != cell
+}
+
+// The same of one forest at a cut.
+fn alone_in<'a>(parent: &'a [u16], label: &'a [u8], cut: u8, asked: u16) -> bool
+    requires { ⌜ (length (now parent) ≡ 1024) × (length (now label) ≡ 1024) ⌝ }
+    ensures { λ r. ⌜ r ≡ aloneIn (parentAtIn (now (parent .entry)) (now (label .entry)) cut) asked ⌝ }
+{
+    let mut cell: u16 = 0;
+    while cell < 1024 {
+        let at = cell as usize;
+        if !apart(asked, cell, parent[at], label[at], cut) {
+            return false;
+        }
+        cell += 1;
+    }
+    true
+}
+
+// Whether the cell asked for is this cell and its own parent at the cut, or neither this cell nor its parent. The label is
+// asked last: labels are hard to foresee for the processor, and few cells come so far.
+fn apart(asked: u16, cell: u16, parent: u16, label: u8, cut: u8) -> bool
+    ensures { λ r. ⌜ r ≡ apart asked cell (cond (ltb label cut) cell parent) ⌝ }
+{
+    if cell == asked {
+        if parent == asked {
+            return true;
+        }
+        return label < cut;
+    }
+    if parent != asked {
+        return true;
+    }
+    label < cut
+}

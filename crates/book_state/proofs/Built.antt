@@ -1,0 +1,121 @@
+-- A forest built in lists: links united into fresh lists one after the other leave lists that hold the forest of those links.
+-- At each link the lists are in their ranges, since they hold a forest of links between cells; so one link more is graph's
+-- `unite` (the crate forest).
+use Prim.Native.Nat.{ℕ, _≤_, _<_}
+use mathlib.Core.Path.{_≡_, refl, _∙_, ap, subst⁻¹}
+use mathlib.Core.Bool.{Bool, true, false, cond}
+use mathlib.Core.List.{List, [], _∷_, reverse, reverseAux}
+use native.Mathlib.Omega.{arith}
+use native.Mathlib.Nat.{le-refl}
+use lib.ListN.{length, set, length-set, length-replicate}
+use borrow.Author.Tests.{eq-eqb}
+use Rattle.graph.specs.Forest.{Forest, Labelled, Each, empty, also, EndsBelow, walk, unite, forestOf}
+use Rattle.graph.proofs.Forests.{walk-ends, size-positive, size-bounded, parent-below}
+use Rattle.forest.specs.Arrays.{parentIn, sizeIn, held}
+use Rattle.forest_unite.specs.United.{hangOf, hungLabels}
+use Rattle.forest_check.specs.Sound.{soundOf, ends}
+use Rattle.forest_unite.specs.declared.Hang.{Hang}
+use Rattle.forest.proofs.Fill.{length-countFrom}
+use Rattle.forest.proofs.Ranged.{Ranged}
+use Rattle.forest_check.proofs.Facts.{ranged-sound}
+use Rattle.forest.proofs.Held.{held-fresh}
+use Rattle.forest_unite.proofs.United.{each, held-unite, ranged-unite}
+use Rattle.book_state.specs.Arrays.{cells, most, Arrays, freshArrays, united, unitedAll}
+
+-- ---- each of a list, from its end
+
+each-onto : {P : Labelled → Type 0} {xs ys : List Labelled} → Each P xs → Each P ys → Each P (reverseAux xs ys)
+each-onto empty on = on
+each-onto (also p ps) on = each-onto ps (also p on)
+
+pub each-reverse : {P : Labelled → Type 0} {xs : List Labelled} → Each P xs → Each P (reverse xs)
+each-reverse ps = each-onto ps empty
+
+-- ---- lists that hold a forest
+
+module _ (ps ss : List ℕ) {xs : List Labelled} (long : (length ps ≡ cells) × (length ss ≡ cells))
+    (parents : parentIn ps ≡ forestOf most xs .parent) (sizes : sizeIn ss ≡ forestOf most xs .size) (below : EndsBelow cells xs) where
+  enough : 10 ≤ most
+  enough = le-refl 10
+
+  pub forest-ranged : Ranged cells ps ss
+  forest-ranged =
+      record {
+        parents-long = long .0;
+        sizes-long = long .1;
+        parent-below = λ c h. subst⁻¹ (λ up. up c < cells) parents (parent-below enough below c h);
+        size-from = λ c h. subst⁻¹ (λ size. 1 ≤ size c) sizes (size-positive enough below c);
+        size-to = λ c h. subst⁻¹ (λ size. size c ≤ cells) sizes (size-bounded enough below c);
+      }
+
+  forest-ends : (c : ℕ) → ends (parentIn ps) most c ≡ true
+  unfolding walk
+  forest-ends c = subst⁻¹ (λ up. ends up most c ≡ true) parents (eq-eqb _ _ (walk-ends enough below c))
+
+  pub forest-sound : soundOf ps ss most ≡ true
+  forest-sound = ranged-sound ps ss most (rw (long .0) forest-ranged) (λ c h. forest-ends c)
+
+-- ---- links united one after the other
+
+-- the lists hold the forest of the links
+pub record Holds (xs : List Labelled) (a : Arrays) : Type 0 where
+  pub parents-long : length (a .parents) ≡ cells
+  pub sizes-long : length (a .sizes) ≡ cells
+  pub labels-long : length (a .labels) ≡ cells
+  pub holds : held (a .parents) (a .sizes) (a .labels) ≡ forestOf most xs
+
+pub holds-fresh : Holds [] freshArrays
+unfolding forestOf
+holds-fresh =
+    record {
+      parents-long = length-countFrom 0 cells;
+      sizes-long = length-replicate {A = ℕ} cells 1;
+      labels-long = length-replicate {A = ℕ} cells 0;
+      holds = held-fresh cells;
+    }
+
+labels-as-long : (ls : List ℕ) (h : Hang) (label : ℕ) → length (hungLabels ls h label) ≡ length ls
+labels-as-long ls h label = go (h .apart)
+  where
+    go : (t : Bool) → length (cond t (set ls (h .child) label) ls) ≡ length ls
+    go true = length-set ls (h .child) label
+    go false = refl
+
+-- one link more
+module _ (x : Labelled) {xs : List Labelled} {a : Arrays} (cell : (x .link .one < cells) × (x .link .other < cells))
+    (ends : EndsBelow cells xs) (on : Holds xs a) where
+  ranged : Ranged cells (a .parents) (a .sizes)
+  ranged =
+      forest-ranged (a .parents) (a .sizes) (on .parents-long, on .sizes-long) (ap (λ f. f .parent) (on .holds))
+      (ap (λ f. f .size) (on .holds)) ends
+
+  as-forest : unite most (held (a .parents) (a .sizes) (a .labels)) x ≡ forestOf most (x ∷ xs)
+  unfolding forestOf
+  as-forest = ap (λ f. unite most f x) (on .holds)
+
+  ranged-more : Ranged cells (united a x .parents) (united a x .sizes)
+  unfolding united
+  ranged-more =
+      ranged-unite (a .parents) (a .sizes) (a .labels) (x .label) ranged (omega arith) (each (on .labels-long)) most (x .link)
+      (cell .0) (cell .1)
+      (λ c l. subst⁻¹ (λ (f : Forest). f .size c ≤ cells) as-forest (size-bounded (le-refl 10) (also cell ends) c))
+
+  pub holds-more : Holds (x ∷ xs) (united a x)
+  unfolding united
+  holds-more =
+      record {
+        parents-long = ranged-more .parents-long;
+        sizes-long = ranged-more .sizes-long;
+        labels-long =
+            labels-as-long (a .labels) (hangOf (a .parents) (a .sizes) most (x .link .one) (x .link .other)) (x .label)
+            ∙ on .labels-long;
+        holds =
+            held-unite (a .parents) (a .sizes) (a .labels) (x .label) ranged (omega arith) (each (on .labels-long)) most (x .link)
+            (cell .0) (cell .1)
+            ∙ as-forest;
+      }
+
+pub holds-all : {xs : List Labelled} → EndsBelow cells xs → Holds xs (unitedAll freshArrays xs)
+unfolding unitedAll
+holds-all empty = holds-fresh
+holds-all (also {x} cell ends) = holds-more x cell ends (holds-all ends)

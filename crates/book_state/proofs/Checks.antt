@@ -1,0 +1,128 @@
+-- The numbers of the table: where the first number that is not 0 is 0, each check is passed. So a book for which number 1
+-- is not given is in order, test by test, and its log can be read.
+use Prim.Native.Nat.{ℕ, zero, suc, _≤_, _<_}
+use mathlib.Core.Path.{_≡_, refl, sym, _∙_}
+use mathlib.Core.Bool.{Bool, true, false, _&&_, and-eq-true-iff}
+use mathlib.Core.List.{List, [], _∷_}
+use native.Mathlib.Omega.{arith}
+use native.Mathlib.Decide.{decLt}
+use borrow.Author.Tests.{leb-true, lt-ltb, le-ltb}
+use lib.Dec.{leb, leb·zero, leb·suc-zero, leb·suc-suc}
+use lib.ListN.{length, getD, List·getD-eq-default}
+use Rattle.settings.specs.Settings.{heldInRange}
+use Rattle.slides.specs.Clock.{clockInRange}
+use Rattle.slides.proofs.Slides.{InRange, in-range}
+use Rattle.forest_check.specs.Sound.{every, within, soundOf, labelsWithin}
+use Rattle.forest_check.proofs.Every.{every-each, within-high}
+use Rattle.book_state.specs.declared.Book.{Book}
+use Rattle.book_state.specs.Arrays.{cells, most}
+use Rattle.book_state.specs.Log.{Readable}
+use Rattle.book_state.specs.Numbers.{firstOf, unless, has, logPlaces, areCells}
+use Rattle.book_state.specs.Order.{inOrderOf, inOrder, neverOpened}
+
+-- ---- the first number that is not 0
+
+pub first-passed : (k : ℕ) (ks : List ℕ) → firstOf (k ∷ ks) ≡ 0 → (k ≡ 0) × (firstOf ks ≡ 0)
+unfolding firstOf
+first-passed zero ks e = (refl, e)
+first-passed (suc k) ks e = absurd (omega arith)
+
+pub first-found : (k : ℕ) (ks : List ℕ) → (k ≡ 0 → ⊥) → firstOf (k ∷ ks) ≡ k
+unfolding firstOf
+first-found zero ks found = absurd (found refl)
+first-found (suc k) ks found = refl
+
+pub first-next : (k : ℕ) (ks : List ℕ) → k ≡ 0 → firstOf (k ∷ ks) ≡ firstOf ks
+unfolding firstOf
+first-next zero ks e = refl
+first-next (suc k) ks e = absurd (omega arith)
+
+-- a check that is passed is no number, and one that fails is the number
+pub passes : {t : Bool} (k : ℕ) (ks : List ℕ) → t ≡ true → firstOf (unless t k ∷ ks) ≡ firstOf ks
+unfolding firstOf
+passes k ks e = rw e
+
+pub fails : {t : Bool} (k : ℕ) (ks : List ℕ) → t ≡ false → firstOf (unless t (suc k) ∷ ks) ≡ suc k
+unfolding firstOf
+fails k ks e = rw e
+
+pub last-passes : {t : Bool} (k : ℕ) → t ≡ true → firstOf (unless t k ∷ []) ≡ 0
+unfolding firstOf
+last-passes k e = rw e
+
+pub unless-passed : (t : Bool) (k : ℕ) → unless t (suc k) ≡ 0 → t ≡ true
+unless-passed true k e = refl
+unless-passed false k e = absurd (omega arith)
+
+pub unless-failed : (t : Bool) (k : ℕ) → (unless t k ≡ 0 → ⊥) → t ≡ false
+unless-failed true k failed = absurd (failed refl)
+unless-failed false k failed = refl
+
+-- ---- both are cells
+
+pub both-cells : {one other : ℕ} → one < cells → other < cells → areCells one other ≡ true
+both-cells p q = simp (lt-ltb _ _ p, lt-ltb _ _ q)
+
+pub first-no-cell : {one : ℕ} (other : ℕ) → cells ≤ one → areCells one other ≡ false
+first-no-cell other p = simp (le-ltb _ _ p)
+
+pub second-no-cell : {one other : ℕ} → one < cells → cells ≤ other → areCells one other ≡ false
+second-no-cell p q = simp (lt-ltb _ _ p, le-ltb _ _ q)
+
+-- ---- so many places
+
+pub has-length : (n : ℕ) (l : List ℕ) → has n l ≡ leb n (length l)
+unfolding has
+has-length zero l = sym (leb·zero (length l))
+has-length (suc n) [] = sym (leb·suc-zero n)
+has-length (suc n) (x ∷ l) = has-length n l ∙ sym (leb·suc-suc n (length l))
+
+-- ---- a book in order
+
+-- test by test
+pub record Ordered (b : Book) : Type 0 where
+  pub timely : clockInRange (b .clock) ≡ true
+  pub held : heldInRange (b .clock .n) (b .clock .b) (b .mounting) ≡ true
+  pub few : every (within 0 257) 0 (b .counts) ≡ true
+  pub forward : soundOf (b .«forward_parent») (b .«forward_size») most ≡ true
+  pub backward : soundOf (b .«backward_parent») (b .«backward_size») most ≡ true
+  pub labels : labelsWithin (b .«backward_label») 15 ≡ true
+
+pub ordered : (b : Book) → inOrder b ≡ true → Ordered b
+unfolding inOrderOf
+ordered b e =
+    let t = clockInRange (b .clock) in
+    let h = heldInRange (b .clock .n) (b .clock .b) (b .mounting) in
+    let f = every (within 0 257) 0 (b .counts) in
+    let p = soundOf (b .«forward_parent») (b .«forward_size») most in
+    let q = soundOf (b .«backward_parent») (b .«backward_size») most in
+    let w₅ = and-eq-true-iff (t && h && f && p && q) (labelsWithin (b .«backward_label») 15) .0 e in
+    let w₄ = and-eq-true-iff (t && h && f && p) q .0 (w₅ .0) in
+    let w₃ = and-eq-true-iff (t && h && f) p .0 (w₄ .0) in
+    let w₂ = and-eq-true-iff (t && h) f .0 (w₃ .0) in
+    let w₁ = and-eq-true-iff t h .0 (w₂ .0) in
+    record { timely = w₁ .0; held = w₁ .1; few = w₂ .1; forward = w₃ .1; backward = w₄ .1; labels = w₅ .1 }
+
+pub readable : (b : Book) (log : List ℕ) → inOrder b ≡ true → has logPlaces log ≡ true → Readable (b .clock .n) (b .counts) log
+readable b log e room =
+    let o = ordered b e in
+    let clock : InRange (b .clock) = in-range (b .clock) .0 (o .timely) in
+    record {
+      n-least = clock .n-least;
+      n-most = clock .n-most;
+      few = at-most (b .counts) (o .few);
+      long = leb-true _ _ (sym (has-length logPlaces log) ∙ room);
+    }
+  where
+    at-most : (counts : List ℕ) → every (within 0 257) 0 counts ≡ true → (spot : ℕ) → getD counts spot 0 ≤ 256
+    at-most counts e spot =
+        within-or-beyond (decLt spot (length counts))
+      where
+        within-or-beyond : Dec (spot < length counts) → getD counts spot 0 ≤ 256
+        within-or-beyond (yes h) = omega (arith, within-high 0 257 spot (getD counts spot 0) (every-each (within 0 257) counts e spot h))
+        within-or-beyond (no h) = rw (List·getD-eq-default counts 0 {n = spot} (omega arith)) (omega arith)
+
+-- a book that was never opened is not in order
+pub never-in-order : inOrder neverOpened ≡ false
+unfolding neverOpened inOrderOf clockInRange
+never-in-order = refl

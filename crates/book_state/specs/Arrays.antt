@@ -1,0 +1,39 @@
+-- A labelled forest in three lists, and links united into it one after the other (document 01, "Chunks and the two
+-- forests"). With 1,024 cells a walk takes at most 10 steps.
+use Prim.Native.Nat.{ℕ}
+use mathlib.Core.List.{List, [], _∷_}
+use Rattle.graph.specs.Forest.{Labelled}
+use Rattle.forest.specs.Arrays.{freshParents, freshSizes, freshLabels}
+use Rattle.forest_unite.specs.United.{hangOf, hungParents, hungSizes, hungLabels}
+use Rattle.forest_unite.specs.declared.Hang.{Hang}
+
+abbrev pub cells : ℕ
+cells = 1024
+
+-- the steps of a walk, at most
+abbrev pub most : ℕ
+most = 10
+
+pub record Arrays : Type 0 where
+  pub parents : List ℕ
+  pub sizes : List ℕ
+  pub labels : List ℕ
+
+abbrev pub arraysOf : List ℕ → List ℕ → List ℕ → Arrays
+arraysOf parents sizes labels = record { parents = parents; sizes = sizes; labels = labels }
+
+-- each cell its own root, of size 1
+abbrev pub freshArrays : Arrays
+freshArrays = record { parents = freshParents cells; sizes = freshSizes cells; labels = freshLabels cells }
+
+abbrev pub hung : Arrays → ℕ → Hang → Arrays
+hung a label h = record { parents = hungParents (a .parents) h; sizes = hungSizes (a .sizes) h; labels = hungLabels (a .labels) h label }
+
+-- one link more
+unfoldable pub united : Arrays → Labelled → Arrays
+united a x = hung a (x .label) (hangOf (a .parents) (a .sizes) most (x .link .one) (x .link .other))
+
+-- the links of a list, of which the LAST stands at the front
+unfoldable pub unitedAll : Arrays → List Labelled → Arrays
+unitedAll a [] = a
+unitedAll a (x ∷ xs) = united (unitedAll a xs) x

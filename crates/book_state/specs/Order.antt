@@ -1,0 +1,54 @@
+-- Number 1 (document 01, "Numbers a call can give"): whether a book's fields are in their ranges and its walks within 10
+-- steps. A book that was never opened is out of range: its n is 0.
+use Prim.Native.Nat.{ℕ}
+use mathlib.Core.Bool.{Bool, _&&_}
+use mathlib.Core.List.{List}
+use lib.ListN.{replicate}
+use Rattle.settings.specs.Settings.{heldInRange}
+use Rattle.slides.specs.Clock.{clockInRange}
+use Rattle.slides.specs.declared.Clock.{Clock}
+use Rattle.forest_check.specs.Sound.{every, within, soundOf, labelsWithin}
+use Rattle.book_state.specs.declared.Book.{Book}
+use Rattle.book_state.specs.Arrays.{cells, most}
+
+-- the book of these fields
+abbrev pub bookOf : Clock → ℕ → List ℕ → List ℕ → List ℕ → List ℕ → List ℕ → List ℕ → Book
+bookOf clock mounting counts forwardParent forwardSize backwardParent backwardSize backwardLabel =
+    record {
+      «forward_parent» = forwardParent;
+      «forward_size» = forwardSize;
+      «backward_parent» = backwardParent;
+      «backward_size» = backwardSize;
+      counts = counts;
+      clock = clock;
+      «backward_label» = backwardLabel;
+      mounting = mounting;
+    }
+
+-- the fields one by one: clock, mounting, counts, forward parents and sizes, backward parents, sizes and labels
+unfoldable pub inOrderOf : Clock → ℕ → List ℕ → List ℕ → List ℕ → List ℕ → List ℕ → List ℕ → Bool
+inOrderOf clock mounting counts forwardParent forwardSize backwardParent backwardSize backwardLabel =
+    clockInRange clock
+    && heldInRange (clock .n) (clock .b) mounting
+    && every (within 0 257) 0 counts
+    && soundOf forwardParent forwardSize most
+    && soundOf backwardParent backwardSize most
+    && labelsWithin backwardLabel 15
+
+abbrev pub inOrder : Book → Bool
+inOrder b =
+    inOrderOf (b .clock) (b .mounting) (b .counts) (b .«forward_parent») (b .«forward_size») (b .«backward_parent») (b .«backward_size») (b .«backward_label»)
+
+-- a book that was never opened: every number is 0
+unfoldable pub neverOpened : Book
+neverOpened =
+    record {
+      «forward_parent» = replicate cells 0;
+      «forward_size» = replicate cells 0;
+      «backward_parent» = replicate cells 0;
+      «backward_size» = replicate cells 0;
+      counts = replicate 32 0;
+      clock = record { t0 = 0; b = 0; time = 0; n = 0 };
+      «backward_label» = replicate cells 0;
+      mounting = 0;
+    }

@@ -1,0 +1,45 @@
+// The state: the book of links for one lidar unit and its log, as data. What the fields are, when they are in order (number
+// 1), and where a slide's links are counted and logged. The calls that change it are in the crate book.
+pub mod order; // order.rt: number 1, whether a book's fields are in their ranges and its walks within their steps
+pub mod spots; // spots.rt: where the links of a slide are counted and logged
+
+ghost use mathlib.Core.Path.{_≡_};
+ghost use Rattle.book_state.specs.Order.{neverOpened};
+
+// The settings and the latest time, the links stored in each place of the last two chunks, and the two forests.
+#[repr(C)]
+pub struct Book {
+    // forward forest of the open chunk
+    pub forward_parent: [u16; 1024],
+    pub forward_size: [u16; 1024],
+    // backward forest of the chunk before
+    pub backward_parent: [u16; 1024],
+    pub backward_size: [u16; 1024],
+    // links stored, at half * 16 + place; half = chunk mod 2
+    pub counts: [u16; 32],
+    pub clock: slides::Clock,
+    pub backward_label: [u8; 1024],
+    pub mounting: u8,
+}
+
+// A book that was never opened: every call but opening gives 1 for it.
+pub fn never_opened() -> Book
+    ensures { λ r. ⌜ r ≡ neverOpened ⌝ }
+{
+    let clock = slides::Clock {
+        t0: 0,
+        b: 0,
+        time: 0,
+        n: 0,
+    };
+    Book {
+        forward_parent: [0; 1024],
+        forward_size: [0; 1024],
+        backward_parent: [0; 1024],
+        backward_size: [0; 1024],
+        counts: [0; 32],
+        clock,
+        backward_label: [0; 1024],
+        mounting: 0,
+    }
+}

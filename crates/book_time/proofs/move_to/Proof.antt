@@ -1,0 +1,116 @@
+-- `chunks::move_to` meets its contract: each way out is one case of the step (proofs/Moves.antt).
+use Prim.Native.Nat.{ℕ, _+_, _<_}
+use mathlib.Core.Path.{_≡_, sym, _∙_, ap}
+use native.Mathlib.Omega.{arith}
+use native.Mathlib.Nat.{div-le-self}
+use borrow.Author.Needs.{needs}
+use Rattle.slides.specs.Clock.{openSlide, chunkOf}
+use Rattle.slides.proofs.Slides.{slide-below}
+use Rattle.book_state.specs.declared.Book.{Book}
+use Rattle.book_state.specs.Order.{bookOf}
+use Rattle.book_time.specs.Time.{cleared, emptied, stayed, turned}
+use Rattle.book_time.proofs.Moves.{chunkBefore, chunkAfter, moved-same, moved-next, moved-further, emptied-made, backward-built, turned-made, other-half}
+use Rattle.book_time.proofs.move_to.Statement.{statement}
+use Rattle.book_time.proofs.move_to.Tie as tie
+
+-- the function's entry, from where the moved clock is known, and the book there
+abbrev entry : tie.After-advanced → tie.Start
+entry c = c .before .before .before .before .before .before
+
+abbrev book : tie.Start → ℕ → Book
+book c mounting =
+    bookOf (c .args .clock) mounting (c .args .counts .now) (c .args .forward-parent .now) (c .args .forward-size .now) (c .args .backward-parent .now) (c .args .backward-size .now) (c .args .backward-label .now)
+
+-- what the two chunks are
+before : (c : tie.After-advanced) (mounting : ℕ) → c .before .before .before .chunk .result ≡ chunkBefore (book (entry c) mounting)
+before c mounting = c .before .before .before .chunk .ensures ∙ ap (chunkOf (entry c .args .clock)) (c .before .before .before .before .open-slide .ensures)
+
+after : (c : tie.After-advanced) (mounting : ℕ) → c .before .chunk2 .result ≡ chunkAfter (book (entry c) mounting) (entry c .args .tick)
+after c mounting = c .before .chunk2 .ensures ∙ ap (chunkOf (entry c .args .clock)) (c .before .before .slide .ensures)
+
+-- a slide has 32 bits
+small : (c : tie.After-advanced) → openSlide (entry c .args .clock) < 4294967296
+small c = slide-below (entry c .args .clock) (entry c .args .clock .time) (search needs)
+
+open-slide-requires : tie.Need-open-slide-requires
+open-slide-requires c κs = search needs
+
+chunk-requires : tie.Need-chunk-requires
+chunk-requires c κs = search needs
+
+slide-requires : tie.Need-slide-requires
+slide-requires c κs = search needs
+
+chunk-requires-2 : tie.Need-chunk-requires-2
+chunk-requires-2 c κs = search needs
+
+advanced-requires : tie.Need-advanced-requires
+advanced-requires c κs = search needs
+
+returns : tie.Need-returns
+unfolding stayed
+returns c mounting =
+    let d = c .before in
+    ap (stayed (book (entry d) mounting)) (d .advanced .ensures)
+    ∙ sym (moved-same _ (entry d .args .log .now) _ (sym (after d mounting) ∙ c .if1 .taken ∙ before d mounting))
+
+freshen-requires : tie.Need-freshen-requires
+freshen-requires c κs = search needs
+
+-- the moved clock, from where the forests are fresh
+abbrev advanced-of : tie.After-freshen → tie.After-advanced
+advanced-of c = c .before .before .before .before .before .before .before
+
+add-if2 : tie.Need-add-if2
+add-if2 c =
+    let d = advanced-of c in
+    let clock = entry d .args .clock in
+    omega (arith, before d 0, div-le-self (openSlide clock) (clock .n), small d)
+
+returns-2 : tie.Need-returns-2
+returns-2 c mounting =
+    let fresh = c .before .before in
+    let d = advanced-of fresh in
+    emptied-made _ mounting (fresh .freshen .ensures)
+    ∙ ap (λ clock. emptied clock mounting) (d .advanced .ensures)
+    ∙ sym (moved-further (book (entry d) mounting) (entry d .args .log .now) _ (λ e. fresh .before .before .before .before .before .before .if1 .left (after d mounting ∙ e ∙ sym (before d mounting))) (λ e. c .before .if2 .taken (after d mounting ∙ e ∙ sym (ap (λ q. q + 1) (before d mounting)))))
+
+unite-chunk-requires : tie.Need-unite-chunk-requires
+unite-chunk-requires c κs = search needs
+
+sub-clear-half : tie.Need-sub-clear-half
+sub-clear-half c = search needs
+
+clear-half-requires : tie.Need-clear-half-requires
+clear-half-requires c κs = search needs
+
+returns-3 : tie.Need-returns-3
+returns-3 c mounting =
+    let united = c .before .before in
+    let fresh = united .before .before .before .before .before .before in
+    let d = advanced-of fresh in
+    let b = book (entry d) mounting in
+    let f = fresh .freshen .ensures in
+    turned-made b (entry d .args .log .now) (d .advanced .result) (f .forward-parents) (f .forward-sizes)
+    (united .unite-chunk .ensures ∙ backward-built b (entry d .args .log .now) (before d mounting) (f .backward-parents) (f .backward-sizes) (f .backward-labels))
+    (c .clear-half .ensures ∙ ap (λ half. cleared half (b .counts)) (other-half (before d mounting)))
+    ∙ ap (turned b (entry d .args .log .now)) (d .advanced .ensures)
+    ∙ sym (moved-next _ _ _ (sym (after d mounting) ∙ united .before .before .before .before .before .if2 .left ∙ ap (λ q. q + 1) (before d mounting)))
+
+pub move-to-spec : {M : Type 1} → statement M
+move-to-spec =
+    tie.close
+    (tie.spec
+    open-slide-requires
+    chunk-requires
+    slide-requires
+    chunk-requires-2
+    advanced-requires
+    returns
+    freshen-requires
+    add-if2
+    returns-2
+    unite-chunk-requires
+    sub-clear-half
+    clear-half-requires
+    returns-3)

@@ -1,0 +1,157 @@
+// The step of time: within a chunk nothing else changes; into the next chunk the backward forest is built from the chunk
+// that ends; further, nothing is left.
+use slides::Clock;
+use book_state::spots;
+ghost use mathlib.Core.Path.{_≡_};
+ghost use mathlib.Core.List.{map, []};
+ghost use Prim.Native.Nat.{ℕ, _+_, _-_, _*_, _≤_, _<_};
+ghost use lib.ListN.{length};
+ghost use Rattle.book_state.specs.Arrays.{arraysOf, unitedAll};
+ghost use Rattle.book_state.specs.Log.{Readable, keep, labelled, linksFrom, chunkLinks};
+ghost use Rattle.book_state.specs.Order.{bookOf};
+ghost use Rattle.book_time.specs.Time.{cleared, Fresh, movedBook};
+
+// Each cell its own root again, in both forests.
+pub fn freshen(
+    forward_parent: &mut [u16; 1024],
+    forward_size: &mut [u16; 1024],
+    backward_parent: &mut [u16; 1024],
+    backward_size: &mut [u16; 1024],
+    backward_label: &mut [u8; 1024],
+)
+    ensures { λ _. ⌜ Fresh (now («forward_parent» .exit)) (now («forward_size» .exit)) (now («backward_parent» .exit)) (now («backward_size» .exit)) (now («backward_label» .exit)) ⌝ }
+{
+    *forward_parent = forest::fresh_parents();
+    *forward_size = forest::fresh_sizes();
+    *backward_parent = forest::fresh_parents();
+    *backward_size = forest::fresh_sizes();
+    *backward_label = forest::fresh_labels();
+}
+
+// The book of these fields when its time has moved to the tick; gives its clock then. Time moves nowhere else.
+pub fn move_to(
+    clock: Clock,
+    counts: &mut [u16; 32],
+    forward_parent: &mut [u16; 1024],
+    forward_size: &mut [u16; 1024],
+    backward_parent: &mut [u16; 1024],
+    backward_size: &mut [u16; 1024],
+    backward_label: &mut [u8; 1024],
+    log: &[u16],
+    tick: u32,
+) -> Clock
+    requires { ⌜ Readable (clock .n) (now counts) (now log) ⌝ }
+    ensures { λ r. ⌜ ((mounting : ℕ) → bookOf r mounting (now (counts .exit)) (now («forward_parent» .exit)) (now («forward_size» .exit)) (now («backward_parent» .exit)) (now («backward_size» .exit)) (now («backward_label» .exit)) ≡ movedBook (bookOf clock mounting (now (counts .entry)) (now («forward_parent» .entry)) (now («forward_size» .entry)) (now («backward_parent» .entry)) (now («backward_size» .entry)) (now («backward_label» .entry))) (now (log .entry)) tick) ⌝ }
+{
+    let before = slides::chunk(clock, slides::open_slide(clock));
+    let after = slides::chunk(clock, slides::slide(clock, tick));
+    let moved = slides::advanced(clock, tick);
+    if after == before {
+        return moved;
+    }
+    freshen(
+        forward_parent,
+        forward_size,
+        backward_parent,
+        backward_size,
+        backward_label,
+    );
+    if after != before + 1 {
+        *counts = [0; 32];
+        return moved;
+    }
+    let half = (before % 2) as usize;
+    unite_chunk(
+        counts,
+        log,
+        half,
+        clock.n,
+        backward_parent,
+        backward_size,
+        backward_label,
+    );
+    *counts = clear_half(*counts, 1 - half);
+    moved
+}
+
+// The counts with those of one half made 0.
+fn clear_half(counts: [u16; 32], half: usize) -> [u16; 32]
+    requires { ⌜ half < 2 ⌝ }
+    ensures { λ r. ⌜ r ≡ cleared half counts ⌝ }
+{
+    let mut kept = counts;
+    let from = half * 16;
+    spots::clear(&mut kept[from..], 16);
+    kept
+}
+
+// The links of places n - 1 down to 1 united into the forest, each with its place as label; place 0 is never scanned.
+fn unite_chunk<'a>(
+    counts: &'a [u16; 32],
+    log: &'a [u16],
+    half: usize,
+    n: u8,
+    parent: &mut [u16; 1024],
+    size: &mut [u16; 1024],
+    label: &mut [u8; 1024],
+)
+    requires { ⌜ half < 2 ⌝ }
+    requires { ⌜ Readable n (now counts) (now log) ⌝ }
+    ensures { λ _. ⌜ arraysOf (now (parent .exit)) (now (size .exit)) (now (label .exit)) ≡ unitedAll (arraysOf (now (parent .entry)) (now (size .entry)) (now (label .entry))) (chunkLinks (now (counts .entry)) (now (log .entry)) half 1 (n - 1)) ⌝ }
+{
+    let mut place = n;
+    while 1 < place {
+        place -= 1;
+        let spot = half * 16 + place as usize;
+        unite_place(
+            log,
+            spot * 512,
+            counts[spot] as usize,
+            place,
+            parent,
+            size,
+            label,
+        );
+    }
+}
+
+// The links of a place, the last arrival first.
+fn unite_place(
+    log: &[u16],
+    start: usize,
+    count: usize,
+    place: u8,
+    parent: &mut [u16; 1024],
+    size: &mut [u16; 1024],
+    label: &mut [u8; 1024],
+)
+    requires { ⌜ start + 2 * count ≤ length (now log) ⌝ }
+    ensures { λ _. ⌜ arraysOf (now (parent .exit)) (now (size .exit)) (now (label .exit)) ≡ unitedAll (arraysOf (now (parent .entry)) (now (size .entry)) (now (label .entry))) (map (labelled place) (linksFrom (now (log .entry)) start count)) ⌝ }
+{
+    let mut left = count;
+    while 0 < left {
+        left -= 1;
+        let at = start + 2 * left;
+        unite_pair(log[at], log[at + 1], place, parent, size, label);
+    }
+}
+
+// One pair of the log. With an entry that is no cell it is no link.
+fn unite_pair(
+    one: u16,
+    other: u16,
+    place: u8,
+    parent: &mut [u16; 1024],
+    size: &mut [u16; 1024],
+    label: &mut [u8; 1024],
+)
+    ensures { λ _. ⌜ arraysOf (now (parent .exit)) (now (size .exit)) (now (label .exit)) ≡ unitedAll (arraysOf (now (parent .entry)) (now (size .entry)) (now (label .entry))) (map (labelled place) (keep (record { one = one; other = other }) [])) ⌝ }
+{
+    if 1024 <= one {
+        return;
+    }
+    if 1024 <= other {
+        return;
+    }
+    forest_unite::unite(parent, size, label, 10, place, one, other);
+}

@@ -1,0 +1,73 @@
+-- The chain call (document 01, "Chain and hold"), for every book, log, pair of cells and chain buffer: order 1, 6, 3, 7, 8.
+--
+-- The labels of window say it in one go. With j the largest label such that the links from it on chain the two, L is
+-- k + j - n and the hold is j - 1. A cell and itself are chained with no link at all, so j is then n + 1: L is k + 1 and the hold n.
+use Prim.Native.Nat.{ℕ, zero, suc, _+_, _-_, _≤_, _<_}
+use mathlib.Core.Path.{_≡_}
+use mathlib.Core.Bool.{true, _&&_}
+use mathlib.Core.List.{List, [], _∷_, _++_}
+use lib.Dec.{leb, ltb}
+use lib.ListN.{length, drop}
+use Rattle.graph.specs.Trail.{trailOf}
+use Rattle.slides.specs.Clock.{openSlide}
+use Rattle.book_state.specs.declared.Book.{Book}
+use Rattle.book_state.specs.Arrays.{cells}
+use Rattle.book_state.specs.Order.{inOrder}
+use Rattle.book_state.specs.Numbers.{firstOf, unless, has, logPlaces, areCells}
+use Rattle.window.specs.Window.{windowLinks, linksFrom, highest}
+use Rattle.chain.specs.declared.ChainAnswer.{ChainAnswer}
+
+-- the chain buffer's places, at least
+abbrev pub chainPlaces : ℕ
+chainPlaces = 1024
+
+-- the largest label such that the window's links from it on chain the two; 0 where no links do
+abbrev pub labelOf : Book → List ℕ → ℕ → ℕ → ℕ
+labelOf b log one other = highest (suc (b .clock .n)) (windowLinks b log) one other
+
+-- the chain handed back
+abbrev pub chainCells : Book → List ℕ → ℕ → ℕ → List ℕ
+chainCells b log one other = trailOf (linksFrom (labelOf b log one other) (windowLinks b log)) one other
+
+unfoldable pub chainNumber : Book → List ℕ → List ℕ → ℕ → ℕ → ℕ
+chainNumber b log chain one other =
+    firstOf
+    (unless (inOrder b) 1
+    ∷ unless (has logPlaces log && has chainPlaces chain) 6
+    ∷ unless (areCells one other) 3
+    ∷ unless (ltb 0 (labelOf b log one other)) 7
+    ∷ unless (leb (length (chainCells b log one other)) 1024) 8
+    ∷ [])
+
+-- the answer, and what the chain buffer holds afterwards
+pub record ChainOutcome : Type 0 where
+  pub answer : ChainAnswer
+  pub chain : List ℕ
+
+-- by the number; the chain is written to the front of the buffer, and later places keep what they had
+unfoldable pub chainBy : ℕ → Book → List ℕ → List ℕ → ℕ → ℕ → ChainOutcome
+chainBy zero b log chain one other =
+    let j : ℕ = labelOf b log one other in
+    let cs : List ℕ = chainCells b log one other in
+    record {
+      answer = record { newest = openSlide (b .clock) + j - b .clock .n; cells = length cs; hold = j - 1; number = 0 };
+      chain = cs ++ drop (length cs) chain;
+    }
+chainBy (suc k) b log chain one other =
+    record { answer = record { newest = 0; cells = 0; hold = 0; number = suc k }; chain = chain }
+
+unfoldable pub chainOf : Book → List ℕ → List ℕ → ℕ → ℕ → ChainOutcome
+chainOf b log chain one other = chainBy (chainNumber b log chain one other) b log chain one other
+
+-- an answer and a chain buffer are those of an outcome
+pub record GivesChain (o : ChainOutcome) (answer : ChainAnswer) (chain : List ℕ) : Type 0 where
+  pub answered : answer ≡ o .answer
+  pub written : chain ≡ o .chain
+
+-- what is left where numbers 1, 6 and 3 are not given
+pub record Answerable (b : Book) (log chain : List ℕ) (one other : ℕ) : Type 0 where
+  pub in-order : inOrder b ≡ true
+  pub log-room : has logPlaces log ≡ true
+  pub chain-room : chainPlaces ≤ length chain
+  pub one-cell : one < cells
+  pub other-cell : other < cells

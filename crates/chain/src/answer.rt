@@ -1,0 +1,128 @@
+// The answer of the chain call for a book in order, two cells and buffers that are long enough.
+use super::ChainAnswer;
+use book_state::Book;
+ghost use mathlib.Core.Path.{_≡_};
+ghost use Prim.Native.Nat.{suc, _+_, _-_, _≤_, _<_};
+ghost use lib.ListN.{length, take};
+ghost use Rattle.graph.specs.Trail.{trailOf};
+ghost use Rattle.window.specs.Window.{highest};
+ghost use Rattle.window.specs.Gathered.{linksIn};
+ghost use Rattle.chain_fewest.specs.Lists.{linksOf};
+ghost use Rattle.chain_fewest.specs.Best.{Asked, Given};
+ghost use Rattle.chain.specs.Chain.{chainOf, GivesChain, Answerable};
+ghost use Rattle.chain.specs.Front.{frontOf, sideFrom, Window};
+
+// The number alone.
+pub fn refused(number: u8) -> ChainAnswer
+    ensures { λ r. ⌜ r ≡ record { newest = 0; cells = 0; hold = 0; number = number } ⌝ }
+{
+    ChainAnswer {
+        newest: 0,
+        cells: 0,
+        hold: 0,
+        number,
+    }
+}
+
+// What is left to refuse is 7 and 8.
+pub fn answer(book: Book, log: &[u16], one: u16, other: u16, chain: &mut [u16]) -> ChainAnswer
+    requires { ⌜ Answerable book (now log) (now chain) one other ⌝ }
+    ensures { λ r. ⌜ GivesChain (chainOf book (now (log .entry)) (now (chain .entry)) one other) r (now (chain .exit)) ⌝ }
+{
+    let mut ones = [0u16; 4096];
+    let mut others = [0u16; 4096];
+    let mut labels = [0u8; 4096];
+    let count = window::gather(book, log, &mut ones, &mut others, &mut labels);
+    let n = book.clock.n;
+    let label = label_of(&ones, &others, &labels, count, n, one, other);
+    if label == 0 {
+        return refused(7);
+    }
+    let cells = trail_from(&ones, &others, &labels, count, label, one, other, chain);
+    if 1024 < cells {
+        return refused(8);
+    }
+    let k = slides::open_slide(book.clock);
+    answered(k, n, label, cells)
+}
+
+// The answer by the open slide k and the label: L is k + label - n, and the hold one less than the label.
+fn answered(k: u64, n: u8, label: u8, cells: u16) -> ChainAnswer
+    requires slide { ⌜ k < 4294967296 ⌝ }
+    requires begun { ⌜ n ≤ k + label ⌝ }
+    requires joined { ⌜ 1 ≤ label ⌝ }
+    ensures { λ r. ⌜ r ≡ record { newest = k + label - n; cells = cells; hold = label - 1; number = 0 } ⌝ }
+{
+    ChainAnswer {
+        newest: k + label as u64 - n as u64,
+        cells,
+        hold: label - 1,
+        number: 0,
+    }
+}
+
+// The largest label such that the links from it on chain the two; 0 where no links do.
+fn label_of<'a>(
+    ones: &'a [u16; 4096],
+    others: &'a [u16; 4096],
+    labels: &'a [u8; 4096],
+    count: usize,
+    n: u8,
+    one: u16,
+    other: u16,
+) -> u8
+    requires { ⌜ Window (now ones) (now others) (now labels) count n ⌝ }
+    ensures { λ r. ⌜ r ≡ highest (suc n) (linksIn (now (ones .entry)) (now (others .entry)) (now (labels .entry)) count) one other ⌝ }
+{
+    let mut parent = forest::fresh_parents();
+    let mut size = forest::fresh_sizes();
+    let mut label = forest::fresh_labels();
+    window::grow(
+        ones,
+        others,
+        labels,
+        count,
+        &mut parent,
+        &mut size,
+        &mut label,
+    );
+    // One above n: a cell and itself are chained with no link at all.
+    window::highest_label(&parent, &label, n + 1, one, other)
+}
+
+// The best trail over the links with label j or more.
+fn trail_from(
+    ones: &[u16],
+    others: &[u16],
+    labels: &[u8],
+    count: usize,
+    j: u8,
+    one: u16,
+    other: u16,
+    chain: &mut [u16],
+) -> u16
+    requires { ⌜ (count ≤ length (now ones)) × (count ≤ length (now others)) × (count ≤ length (now labels)) ⌝ }
+    requires { ⌜ Asked (sideFrom j (now labels) count (now ones)) (sideFrom j (now labels) count (now others)) one other (now chain) ⌝ }
+    ensures { λ r.
+        ⌜ Given (trailOf (linksOf (sideFrom j (now (labels .entry)) count (now (ones .entry)))
+        (sideFrom j (now (labels .entry)) count (now (others .entry)))) one other) (now (chain .entry)) r
+        (now (chain .exit)) ⌝ }
+{
+    let front = front(labels, count, j);
+    chain_fewest::best_trail(&ones[..front], &others[..front], one, other, chain)
+}
+
+// How many labels, of the first so many, come before the first one below j.
+fn front(labels: &[u8], count: usize, j: u8) -> usize
+    requires { ⌜ count ≤ length (now labels) ⌝ }
+    ensures { λ r. ⌜ r ≡ frontOf j (take count (now (labels .entry))) ⌝ }
+{
+    let mut i = 0;
+    while i < count {
+        if labels[i] < j {
+            return i;
+        }
+        i += 1;
+    }
+    count
+}

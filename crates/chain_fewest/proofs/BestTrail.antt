@@ -1,0 +1,71 @@
+-- The parts of the best trail put together: the lists of both sides, numbers that begin unknown, and what is given at last.
+use Prim.Native.Nat.{ℕ, zero, suc, _≤_, _<_}
+use native.Mathlib.Nat.{le-trans}
+use native.Mathlib.Omega.{arith}
+use mathlib.Core.Path.{_≡_, refl, sym}
+use mathlib.Core.List.{List}
+use lib.ListN.{length, getD, take, replicate, length-replicate}
+use lib.Seq.{length-take-le}
+use borrow.Author.Tests.{le-leb, lt-leb}
+use Rattle.graph.specs.Trail.{trailOf}
+use Rattle.graph.proofs.Trails.{trail-one}
+use Rattle.graph.proofs.Finder.{trailOf-best}
+use Rattle.buckets.specs.Listed.{Listed}
+use Rattle.chain_fewest.specs.Lists.{linksOf, BothWays}
+use Rattle.chain_fewest.specs.Levels.{Counted, Blank}
+use Rattle.chain_fewest.specs.Descent.{Down, written}
+use Rattle.chain_fewest.specs.Best.{Asked, Given}
+
+-- so many places of the array for the links
+pub places-long : (links : ℕ) → links ≤ 4096 → length {A = ℕ} (take links (replicate 4096 0)) ≡ links
+places-long links few = length-take-le links (replicate 4096 0) (rw length-replicate few)
+
+pub all-blank : (cells : ℕ) → Blank (replicate cells 0)
+all-blank zero c = refl
+all-blank (suc cells) zero = refl
+all-blank (suc cells) (suc c) = all-blank cells c
+
+pub both-ways :
+    {ones others firstOne nextOne firstOther nextOther chain : List ℕ} {one other : ℕ} →
+    Asked ones others one other chain →
+    Listed ones 1024 0 firstOne nextOne →
+    Listed others 1024 0 firstOther nextOther → BothWays 1024 ones others firstOne nextOne firstOther nextOther
+both-ways a forth back =
+    record {
+      forth = record { even = a .even; across = a .othersInside; listed = forth };
+      back = record { even = sym (a .even); across = a .onesInside; listed = back };
+    }
+
+module _
+    {ones others chain left : List ℕ} {one other : ℕ}
+    (a : Asked ones others one other chain)
+    (k : Counted (linksOf ones others) other left)
+  where
+    -- the trail is written where it is not too long
+    pub may-descend :
+        {firstOne nextOne firstOther nextOther : List ℕ} →
+        BothWays 1024 ones others firstOne nextOne firstOther nextOther →
+        length left ≡ 1024 →
+        getD left one 0 ≤ 1024 → Down ones others firstOne nextOne firstOther nextOther left one other chain
+    may-descend lists size fits =
+        record {
+          few = omega (arith, size);
+          lists = rw size lists;
+          counted = k;
+          known = rw (k .counts one) (trail-one (trailOf-best (a .chained) .trail));
+          room = le-trans fits (a .room);
+        }
+
+    -- the best trail
+    abbrev trail : List ℕ
+    trail = trailOf (linksOf ones others) one other
+
+    pub gives-written :
+        getD left one 0 ≤ 1024 →
+        {after : List ℕ} → after ≡ written trail chain → Given trail chain (getD left one 0) after
+    gives-written fits e =
+        record { count = k .counts one; buffer = rw (le-leb (length trail) 1024 (rw (k .counts one) at fits)) e }
+
+    pub gives-unwritten : 1024 < getD left one 0 → Given trail chain (getD left one 0) chain
+    gives-unwritten long =
+        record { count = k .counts one; buffer = rw (lt-leb (length trail) 1024 (rw (k .counts one) at long)) }

@@ -1,0 +1,120 @@
+// The best trail, from the first cell down: always on to the smallest cell across a link from which one cell fewer leads
+// on. Each cell's links are walked once, so the time is linear in cells and links.
+use buckets::number_at;
+ghost use mathlib.Core.Path.{_≡_};
+ghost use Prim.Native.Nat.{ℕ, _<_, min};
+ghost use lib.ListN.{length};
+ghost use Rattle.graph.specs.Trail.{trailOf};
+ghost use Rattle.chain_fewest.specs.Lists.{linksOf, OneWay, BothWays};
+ghost use Rattle.chain_fewest.specs.Descent.{Smaller, Nearer, NextCell, Down, written};
+
+fn smaller(one: usize, other: usize) -> usize
+    ensures { λ r. ⌜ r ≡ min one other ⌝ }
+{
+    if one < other { one } else { other }
+}
+
+// The smaller of `best` and the smallest cell across a link of the cell, read from one side, with the number.
+fn smallest_across(
+    from: &[u16],
+    to: &[u16],
+    first: &[u16],
+    next: &[u16],
+    left: &[u16],
+    cell: usize,
+    number: usize,
+    best: usize,
+) -> usize
+    requires lists { ⌜ OneWay (length (now left)) (now from) (now to) (now first) (now next) ⌝ }
+    requires inside { ⌜ cell < length (now left) ⌝ }
+    ensures { λ r. ⌜ Smaller (now (from .entry)) (now (to .entry)) (now (left .entry)) cell number best r ⌝ }
+{
+    let mut found = best;
+    let mut link = number_at(first, cell);
+    while link < from.len() {
+        let across = number_at(to, link);
+        if number_at(left, across) == number {
+            found = smaller(found, across);
+        }
+        link = number_at(next, link);
+    }
+    found
+}
+
+// The smallest cell across a link of the cell from which one cell fewer leads on.
+fn next_cell(
+    ones: &[u16],
+    others: &[u16],
+    first_one: &[u16],
+    next_one: &[u16],
+    first_other: &[u16],
+    next_other: &[u16],
+    left: &[u16],
+    cell: usize,
+) -> usize
+    requires lists { ⌜ BothWays (length (now left)) (now ones) (now others) (now «first_one») (now «next_one»)
+        (now «first_other») (now «next_other») ⌝ }
+    requires inside { ⌜ cell < length (now left) ⌝ }
+    requires nearer { ⌜ ((d : ℕ) × Nearer (linksOf (now ones) (now others)) (now left) cell d) ⌝ }
+    ensures { λ r. ⌜ NextCell (linksOf (now (ones .entry)) (now (others .entry))) (now (left .entry)) cell r ⌝ }
+{
+    let number = number_at(left, cell) - 1;
+    let found = smallest_across(
+        ones,
+        others,
+        first_one,
+        next_one,
+        left,
+        cell,
+        number,
+        left.len(),
+    );
+    smallest_across(
+        others,
+        ones,
+        first_other,
+        next_other,
+        left,
+        cell,
+        number,
+        found,
+    )
+}
+
+// Writes the best trail from one cell to the other to the front of the chain; later places keep what they had.
+pub fn descend(
+    ones: &[u16],
+    others: &[u16],
+    first_one: &[u16],
+    next_one: &[u16],
+    first_other: &[u16],
+    next_other: &[u16],
+    left: &[u16],
+    one: usize,
+    other: usize,
+    chain: &mut [u16],
+)
+    requires { ⌜ Down (now ones) (now others) (now «first_one») (now «next_one») (now «first_other») (now «next_other»)
+        (now left) one other (now chain) ⌝ }
+    ensures { λ _.
+        ⌜ now (chain .exit) ≡ written (trailOf (linksOf (now (ones .entry)) (now (others .entry))) one other)
+        (now (chain .entry)) ⌝ }
+{
+    let mut cell = one;
+    let mut place = 0;
+    while cell != other {
+        chain[place] = cell as u16;
+        place += 1;
+        cell = next_cell(
+            ones,
+            others,
+            first_one,
+            next_one,
+            first_other,
+            next_other,
+            left,
+            cell,
+        );
+    }
+    chain[place] = cell as u16;
+}

@@ -1,0 +1,89 @@
+// How many cells the best trail from each cell to the second cell has: found from the second cell on, level by level, in
+// time linear in cells and links, since each cell enters the queue once and its links are walked once.
+use buckets::number_at;
+ghost use mathlib.Core.Path.{_≡_};
+ghost use Prim.Native.Nat.{_<_};
+ghost use lib.ListN.{length};
+ghost use Rattle.chain_fewest.specs.Lists.{linksOf, BothWays};
+ghost use Rattle.chain_fewest.specs.Levels.{Counted, Blank, Ready, Reached};
+
+// Gives each cell across a link of the queue's cell at `head`, read from one side, its number if it has none, and puts it
+// in the queue. Returns the queue's new end.
+fn reach(
+    from: &[u16],
+    to: &[u16],
+    first: &[u16],
+    next: &[u16],
+    head: usize,
+    left: &mut [u16],
+    queue: &mut [u16],
+    tail: usize,
+) -> usize
+    requires { ⌜ Ready (now from) (now to) (now first) (now next) head (now left) (now queue) tail ⌝ }
+    ensures { λ r.
+        ⌜ Reached (now (from .entry)) (now (to .entry)) head (now (left .entry)) (now (queue .entry)) (now (left .exit))
+        (now (queue .exit)) r ⌝ }
+{
+    let cell = number_at(queue, head);
+    let number = left[cell] + 1;
+    let mut end = tail;
+    let mut link = number_at(first, cell);
+    while link < from.len() {
+        let across = number_at(to, link);
+        if left[across] == 0 {
+            left[across] = number;
+            queue[end] = across as u16;
+            end += 1;
+        }
+        link = number_at(next, link);
+    }
+    end
+}
+
+// How many cells lead on from each cell to the second one.
+pub fn count_cells(
+    ones: &[u16],
+    others: &[u16],
+    first_one: &[u16],
+    next_one: &[u16],
+    first_other: &[u16],
+    next_other: &[u16],
+    other: u16,
+    left: &mut [u16],
+)
+    requires inside { ⌜ other < 1024 ⌝ }
+    requires size { ⌜ length (now left) ≡ 1024 ⌝ }
+    requires blank { ⌜ Blank (now left) ⌝ }
+    requires lists { ⌜ BothWays 1024 (now ones) (now others) (now «first_one») (now «next_one») (now «first_other»)
+        (now «next_other») ⌝ }
+    ensures { λ _. ⌜ Counted (linksOf (now (ones .entry)) (now (others .entry))) other (now (left .exit)) ⌝ }
+{
+    let mut queue = [0u16; 1024];
+    queue[0] = other;
+    left[other as usize] = 1;
+    let mut head = 0;
+    let mut tail = 1;
+    while head < tail {
+        tail = reach(
+            ones,
+            others,
+            first_one,
+            next_one,
+            head,
+            left,
+            &mut queue,
+            tail,
+        );
+        tail = reach(
+            others,
+            ones,
+            first_other,
+            next_other,
+            head,
+            left,
+            &mut queue,
+            tail,
+        );
+        head += 1;
+    }
+}

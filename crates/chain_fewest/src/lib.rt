@@ -1,0 +1,93 @@
+// The best trail over links in two lists, with fewest cells and first by cell numbers: link i joins ones[i] and others[i]. From
+// the second cell on each cell gets the number of cells that lead on from it, level by level; then the trail goes from the
+// first cell always to the smallest cell one nearer.
+mod descent; // descent.rt: the best trail, from the first cell down
+mod levels; // levels.rt: how many cells lead on from each cell
+
+use descent::descend;
+use levels::count_cells;
+use buckets::list_entries;
+ghost use Rattle.graph.specs.Trail.{trailOf};
+ghost use Rattle.chain_fewest.specs.Lists.{linksOf, BothWays};
+ghost use Rattle.chain_fewest.specs.Best.{Asked, Given};
+
+// Writes the best trail from one cell to the other to the front of the chain, unless it has more than 1,024 cells, and
+// returns its number of cells.
+pub fn best_trail(ones: &[u16], others: &[u16], one: u16, other: u16, chain: &mut [u16]) -> u16
+    requires { ⌜ Asked (now ones) (now others) one other (now chain) ⌝ }
+    ensures { λ r.
+        ⌜ Given (trailOf (linksOf (now (ones .entry)) (now (others .entry))) one other) (now (chain .entry)) r
+        (now (chain .exit)) ⌝ }
+{
+    // The number of links ends a list: to begin with, all are empty.
+    let links = ones.len();
+    let end = links as u16;
+    let mut first_one = [end; 1024];
+    let mut places_one = [0u16; 4096];
+    let next_one = &mut places_one[..links];
+    list_entries(ones, &mut first_one, next_one);
+    let mut first_other = [end; 1024];
+    let mut places_other = [0u16; 4096];
+    let next_other = &mut places_other[..links];
+    list_entries(others, &mut first_other, next_other);
+    trail_over(
+        ones,
+        others,
+        &first_one,
+        next_one,
+        &first_other,
+        next_other,
+        one,
+        other,
+        chain,
+    )
+}
+
+// The same, with the links of each cell listed.
+fn trail_over(
+    ones: &[u16],
+    others: &[u16],
+    first_one: &[u16],
+    next_one: &[u16],
+    first_other: &[u16],
+    next_other: &[u16],
+    one: u16,
+    other: u16,
+    chain: &mut [u16],
+) -> u16
+    requires asked { ⌜ Asked (now ones) (now others) one other (now chain) ⌝ }
+    requires lists { ⌜ BothWays 1024 (now ones) (now others) (now «first_one») (now «next_one») (now «first_other»)
+        (now «next_other») ⌝ }
+    ensures { λ r.
+        ⌜ Given (trailOf (linksOf (now (ones .entry)) (now (others .entry))) one other) (now (chain .entry)) r
+        (now (chain .exit)) ⌝ }
+{
+    let mut left = [0u16; 1024];
+    count_cells(
+        ones,
+        others,
+        first_one,
+        next_one,
+        first_other,
+        next_other,
+        other,
+        &mut left,
+    );
+    let cells = left[one as usize];
+    if 1024 < cells {
+        return cells;
+    }
+    descend(
+        ones,
+        others,
+        first_one,
+        next_one,
+        first_other,
+        next_other,
+        &left,
+        one as usize,
+        other as usize,
+        chain,
+    );
+    cells
+}

@@ -1,0 +1,122 @@
+// Crossing (document 01): from a group of the backward forest to each forward group that shares a cell with it, and from
+// there back again, until no new group is met. A cell's key is the root of its tree; the cells of one key are a group, and are
+// listed (crate lists).
+use buckets::list_entries;
+use buckets::number_at;
+ghost use Prim.Native.Nat.{_<_};
+ghost use Rattle.forest_cross.specs.Across.{Keyed, JoinedAcross};
+ghost use Rattle.forest_cross.specs.Marks.{Sides, Begins, Crossed};
+
+// Marks a backward group, then crosses to the forward group of each of its cells that has no mark yet.
+fn from_backward(
+    group: usize,
+    backward: &[u16],
+    backward_first: &[u16],
+    backward_next: &[u16],
+    forward: &[u16],
+    forward_first: &[u16],
+    forward_next: &[u16],
+    backward_marks: &mut [u8],
+    forward_marks: &mut [u8],
+)
+    requires sides { ⌜ Sides (now backward) (now «backward_first») (now «backward_next») (now forward) (now «forward_first»)
+        (now «forward_next») (now «backward_marks») (now «forward_marks») ⌝ }
+    requires begins { ⌜ Begins (now backward) (now «backward_marks») group ⌝ }
+    ensures { λ _.
+        ⌜ Crossed (now (backward .entry)) (now (forward .entry)) group (now («backward_marks» .entry))
+        (now («forward_marks» .entry)) (now («backward_marks» .exit)) (now («forward_marks» .exit)) ⌝ }
+{
+    backward_marks[group] = 1;
+    let mut cell = number_at(backward_first, group);
+    while cell < backward.len() {
+        let shared = number_at(forward, cell);
+        if forward_marks[shared] == 0 {
+            from_forward(
+                shared,
+                forward,
+                forward_first,
+                forward_next,
+                backward,
+                backward_first,
+                backward_next,
+                forward_marks,
+                backward_marks,
+            );
+        }
+        cell = number_at(backward_next, cell);
+    }
+}
+
+// And back again: the same with the sides exchanged.
+fn from_forward(
+    group: usize,
+    forward: &[u16],
+    forward_first: &[u16],
+    forward_next: &[u16],
+    backward: &[u16],
+    backward_first: &[u16],
+    backward_next: &[u16],
+    forward_marks: &mut [u8],
+    backward_marks: &mut [u8],
+)
+    requires sides { ⌜ Sides (now forward) (now «forward_first») (now «forward_next») (now backward) (now «backward_first»)
+        (now «backward_next») (now «forward_marks») (now «backward_marks») ⌝ }
+    requires begins { ⌜ Begins (now forward) (now «forward_marks») group ⌝ }
+    ensures { λ _.
+        ⌜ Crossed (now (forward .entry)) (now (backward .entry)) group (now («forward_marks» .entry))
+        (now («backward_marks» .entry)) (now («forward_marks» .exit)) (now («backward_marks» .exit)) ⌝ }
+{
+    forward_marks[group] = 1;
+    let mut cell = number_at(forward_first, group);
+    while cell < forward.len() {
+        let shared = number_at(backward, cell);
+        if backward_marks[shared] == 0 {
+            from_backward(
+                shared,
+                backward,
+                backward_first,
+                backward_next,
+                forward,
+                forward_first,
+                forward_next,
+                backward_marks,
+                forward_marks,
+            );
+        }
+        cell = number_at(forward_next, cell);
+    }
+}
+
+// Whether one cell's backward group leads across to the other cell's. Each group is entered once and each list walked
+// once, so the time is linear in the cells.
+pub fn joined_across(backward: &[u16; 1024], forward: &[u16; 1024], one: u16, other: u16) -> bool
+    requires backward { ⌜ Keyed (now backward) ⌝ }
+    requires forward { ⌜ Keyed (now forward) ⌝ }
+    requires one { ⌜ one < 1024 ⌝ }
+    requires other { ⌜ other < 1024 ⌝ }
+    ensures { λ r. ⌜ JoinedAcross (now (backward .entry)) (now (forward .entry)) one other r ⌝ }
+{
+    let start = number_at(backward, one as usize);
+    let asked = number_at(backward, other as usize);
+    // 1024 ends a list: to begin with, all are empty.
+    let mut backward_first = [1024u16; 1024];
+    let mut backward_next = [1024u16; 1024];
+    list_entries(backward, &mut backward_first, &mut backward_next);
+    let mut forward_first = [1024u16; 1024];
+    let mut forward_next = [1024u16; 1024];
+    list_entries(forward, &mut forward_first, &mut forward_next);
+    let mut backward_marks = [0u8; 1024];
+    let mut forward_marks = [0u8; 1024];
+    from_backward(
+        start,
+        backward,
+        &backward_first,
+        &backward_next,
+        forward,
+        &forward_first,
+        &forward_next,
+        &mut backward_marks,
+        &mut forward_marks,
+    );
+    backward_marks[asked] != 0
+}

@@ -1,0 +1,16 @@
+-- `uniting::hang_size` meets its contract: the store where the roots are apart.
+use borrow.Author.Needs.{needs}
+use Rattle.forest_unite.proofs.hang_size.Statement.{statement}
+use Rattle.forest_unite.proofs.hang_size.Tie as tie
+
+store-requires : tie.Need-store-requires
+store-requires c κs = tt
+
+returns : tie.Need-returns
+returns c = rw (c .before .before .if1 .taken) (c .store .ensures)
+
+returns-2 : tie.Need-returns-2
+returns-2 c = search needs
+
+pub hang-size-spec : {M : Type 1} → statement M
+hang-size-spec = tie.close (tie.spec store-requires returns returns-2)

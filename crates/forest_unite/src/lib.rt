@@ -1,0 +1,88 @@
+// What a link does to a forest in arrays: roots.rt says who hangs under whom, and the stores here are one array each. Parents
+// are never shortened: a link stores one parent, that of a root.
+pub mod roots; // roots.rt: who hangs under whom
+
+ghost use mathlib.Core.Path.{_≡_};
+ghost use lib.ListN.{set};
+ghost use Rattle.forest_unite.specs.United.{hungParents, hungSizes, hungLabels, United};
+
+// What a link does to a forest. Where its ends have different roots (apart), the root child goes under
+// the root top, whose tree then has size cells. Otherwise nothing, and the numbers are 0.
+pub struct Hang {
+    pub apart: bool,
+    pub child: u16,
+    pub top: u16,
+    pub size: u16,
+}
+
+// The child's new parent.
+pub fn hang_parent(parent: &mut [u16; 1024], h: Hang)
+    ensures { λ _. ⌜ now (parent .exit) ≡ hungParents (now (parent .entry)) h ⌝ }
+{
+    if h.apart {
+        store(parent, h.child, h.top);
+    }
+}
+
+// The top's new size.
+pub fn hang_size(size: &mut [u16; 1024], h: Hang)
+    ensures { λ _. ⌜ now (size .exit) ≡ hungSizes (now (size .entry)) h ⌝ }
+{
+    if h.apart {
+        store(size, h.top, h.size);
+    }
+}
+
+// The label of the child's step.
+pub fn hang_label(label: &mut [u8; 1024], h: Hang, place: u8)
+    ensures { λ _. ⌜ now (label .exit) ≡ hungLabels (now (label .entry)) h place ⌝ }
+{
+    if h.apart {
+        store_label(label, h.child, place);
+    }
+}
+
+// One link more, whose step is labelled with the place.
+pub fn unite(
+    parent: &mut [u16; 1024],
+    size: &mut [u16; 1024],
+    label: &mut [u8; 1024],
+    most: u8,
+    place: u8,
+    one: u16,
+    other: u16,
+)
+    ensures { λ _. ⌜ United (now (parent .entry)) (now (size .entry)) (now (label .entry)) most one other place
+        (now (parent .exit)) (now (size .exit)) (now (label .exit)) ⌝ }
+{
+    let a = forest::walks::root(parent, most, one);
+    let b = forest::walks::root(parent, most, other);
+    // Most links of a full window find their ends joined already.
+    if a == b {
+        return;
+    }
+    let h = roots::hang_roots(size, a, b);
+    hang_parent(parent, h);
+    hang_size(size, h);
+    hang_label(label, h, place);
+}
+
+// The cell's number stored; beyond the slice nothing is.
+fn store(numbers: &mut [u16], cell: u16, number: u16)
+    ensures { λ _. ⌜ now (numbers .exit) ≡ set (now (numbers .entry)) cell number ⌝ }
+{
+    let at = cell as usize;
+    if at < numbers.len() {
+        numbers[at] = number;
+    }
+}
+
+// The same for labels.
+fn store_label(label: &mut [u8], cell: u16, place: u8)
+    ensures { λ _. ⌜ now (label .exit) ≡ set (now (label .entry)) cell place ⌝ }
+{
+    let at = cell as usize;
+    if at < label.len() {
+        label[at] = place;
+    }
+}

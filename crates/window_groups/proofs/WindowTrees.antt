@@ -1,0 +1,93 @@
+-- The forest of a book's window, as the code holds it: what its trees tell at each cell's root are the groups that the definition
+-- asks for (proofs/GroupTrees.antt).
+use Prim.Native.Nat.{ℕ, _+_, _-_, _≤_}
+use mathlib.Core.Path.{_≡_, sym, ap, ap₂, _∙_}
+use mathlib.Core.List.{List, reverse}
+use native.Mathlib.Nat.{le-refl}
+use lib.ListN.{length}
+use Rattle.graph.specs.Forest.{Labelled, Each, climb, forestOf}
+use Rattle.graph.proofs.Forests.{parent-below}
+use Rattle.graph.proofs.Cut.{each-map, label-of-step}
+use Rattle.forest.specs.Arrays.{parentIn, labelIn}
+use Rattle.book_state.specs.declared.Book.{Book}
+use Rattle.book_state.specs.Arrays.{most}
+use Rattle.book_state.proofs.Built.{each-reverse, Holds, holds-all}
+use Rattle.window.specs.Window.{windowLinks}
+use Rattle.window.proofs.Falling.{falls-reverse}
+use Rattle.window.proofs.WindowLinks.{window-ends, window-labels, window-falls}
+use Rattle.window.proofs.WindowForest.{chained-reverse}
+use Rattle.window_groups.specs.declared.trees.WindowForest.{WindowForest}
+use Rattle.window_groups.specs.declared.trees.Tallies.{Tallies}
+use Rattle.window_groups.specs.Groups.{smallest, groupOf, leastHold, groupsOf}
+use Rattle.window_groups.specs.Trees.{windowArrays, windowForestOf, treeOf, leastLabel, groupsAt}
+use Rattle.window_groups.proofs.Cells.{of-cells-agree}
+use Rattle.window_groups.proofs.GroupTrees.{Ordered, group-is-tree, tree-hold}
+use Rattle.window_groups.proofs.Told.{Grown, Told, first-at, count-at, least-at}
+
+module _ (b : Book) (log : List ℕ) where
+  abbrev united : List Labelled
+  united = reverse (windowLinks b log)
+
+  ordered : Ordered (b .clock .n) (windowLinks b log) united
+  ordered =
+      record {
+        ends = each-reverse (window-ends b log);
+        falls = falls-reverse (window-falls b log);
+        labels = each-reverse (window-labels b log);
+        chain = λ j one other. let both = chained-reverse j (windowLinks b log) in (both .1, both .0);
+      }
+
+  holds : Holds united (windowArrays b log)
+  holds = holds-all (each-reverse (window-ends b log))
+
+  module _ {f : WindowForest} (is : f ≡ windowForestOf b log) where
+    parents-are : parentIn (f .parent) ≡ forestOf most united .parent
+    unfolding windowForestOf
+    parents-are = ap (λ g. parentIn (g .parent)) is ∙ ap (λ g. g .parent) (holds .holds)
+
+    labels-are : labelIn (f .label) ≡ forestOf most united .label
+    unfolding windowForestOf
+    labels-are = ap (λ g. labelIn (g .label)) is ∙ ap (λ g. g .label) (holds .holds)
+
+    pub forest-grown : Grown (f .parent) (f .label)
+    unfolding windowForestOf
+    forest-grown =
+        record {
+          long = ap (λ g. length (g .parent)) is ∙ holds .parents-long;
+          inside = λ c h. rw (parent-is c) (parent-below (le-refl 10) (ordered .ends) c h);
+          from-one = λ c. rw (parent-is c, label-is c) (label-of-step (le-refl 10) (ordered .ends) (λ l. 1 ≤ l) from-one c);
+        }
+      where
+        parent-is : (c : ℕ) → parentIn (f .parent) c ≡ forestOf most united .parent c
+        parent-is c = ap (λ p. p c) parents-are
+
+        label-is : (c : ℕ) → labelIn (f .label) c ≡ forestOf most united .label c
+        label-is c = ap (λ l. l c) labels-are
+
+        from-one : Each (λ y. 1 ≤ y .label) united
+        from-one = each-map (λ y p. p .0) (ordered .labels)
+
+    -- the tree of a cell, by parents
+    abbrev tree : (ℕ → ℕ) → ℕ → List ℕ
+    tree parent c = treeOf (λ d. climb parent most d .root) (climb parent most c .root)
+
+    tree-is : (c : ℕ) → tree (parentIn (f .parent)) c ≡ groupOf (windowLinks b log) c
+    tree-is c = ap (λ p. tree p c) parents-are ∙ sym (group-is-tree ordered c)
+
+    hold-is : (c : ℕ)
+        → leastLabel (b .clock .n + 1) (parentIn (f .parent)) (labelIn (f .label)) (tree (parentIn (f .parent)) c) - 1
+        ≡ leastHold (b .clock .n) (windowLinks b log) (groupOf (windowLinks b log) c)
+    hold-is c =
+        ap₂ (λ p l. leastLabel (b .clock .n + 1) p l (tree p c) - 1) parents-are labels-are
+        ∙ sym (ap (leastHold (b .clock .n) (windowLinks b log)) (group-is-tree ordered c) ∙ tree-hold ordered _)
+
+    pub forest-groups : {roots : List ℕ} {t : Tallies} → Told (b .clock .n) (f .parent) (f .label) roots t
+        → groupsAt roots t (f .count) ≡ groupsOf b log
+    unfolding groupsAt groupsOf windowForestOf
+    forest-groups told = λ i.
+        record {
+          first = of-cells-agree _ _ (λ c h. first-at told h ∙ ap smallest (tree-is c)) i;
+          count = of-cells-agree _ _ (λ c h. count-at told h ∙ ap length (tree-is c)) i;
+          hold = of-cells-agree _ _ (λ c h. ap (λ l. l - 1) (least-at told h) ∙ hold-is c) i;
+          links = is i .count;
+        }

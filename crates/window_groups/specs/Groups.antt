@@ -1,0 +1,58 @@
+-- The groups of a window's links (document 01, "The listing"): cells that the links chain together, the smallest cell of
+-- each, how many there are, and the least hold over its pairs. Nothing here speaks of forests.
+use Prim.Native.Nat.{ℕ, suc, _-_, min}
+use mathlib.Core.Bool.{Bool, cond}
+use mathlib.Core.List.{List, [], _∷_, map}
+use lib.ListN.{length}
+use Rattle.graph.specs.Link.{chains}
+use Rattle.graph.specs.Forest.{Labelled}
+use Rattle.forest.specs.Arrays.{countFrom}
+use Rattle.book_state.specs.Arrays.{cells}
+use Rattle.book_state.specs.declared.Book.{Book}
+use Rattle.window.specs.Window.{windowLinks, linksFrom, highest}
+use Rattle.window_groups.specs.declared.Groups.{Groups}
+
+-- the cells of a list that pass a test
+unfoldable pub those : (ℕ → Bool) → List ℕ → List ℕ
+those test [] = []
+those test (c ∷ cs) =
+    let rest : List ℕ = those test cs in
+    cond (test c) (c ∷ rest) rest
+
+-- the cells that the window's links chain with c, in order of their numbers
+abbrev pub groupOf : List Labelled → ℕ → List ℕ
+groupOf xs c = those (chains (linksFrom 1 xs) c) (countFrom 0 cells)
+
+-- the first of the cells: the smallest, where they are in order of their numbers
+unfoldable pub smallest : List ℕ → ℕ
+smallest [] = 0
+smallest (c ∷ cs) = c
+
+-- for how many further closings two different cells stay joined
+abbrev pub holdOf : ℕ → List Labelled → ℕ → ℕ → ℕ
+holdOf n xs one other = highest (suc n) xs one other - 1
+
+-- the least hold of c with another cell of the list; n, read as "always", where there is none
+unfoldable pub leastWith : ℕ → List Labelled → ℕ → List ℕ → ℕ
+leastWith n xs c [] = n
+leastWith n xs c (d ∷ ds) = min (holdOf n xs c d) (leastWith n xs c ds)
+
+-- the least hold over the pairs of a list
+unfoldable pub leastHold : ℕ → List Labelled → List ℕ → ℕ
+leastHold n xs [] = n
+leastHold n xs (c ∷ cs) = min (leastWith n xs c cs) (leastHold n xs cs)
+
+-- what f gives of each cell
+abbrev pub ofCells : (ℕ → ℕ) → List ℕ
+ofCells f = map f (countFrom 0 cells)
+
+-- of each cell its group's smallest cell, number of cells and least hold; and the links of the window, repeats counted
+unfoldable pub groupsOf : Book → List ℕ → Groups
+groupsOf b log =
+    let xs : List Labelled = windowLinks b log in
+    record {
+      first = ofCells (λ c. smallest (groupOf xs c));
+      count = ofCells (λ c. length (groupOf xs c));
+      hold = ofCells (λ c. leastHold (b .clock .n) xs (groupOf xs c));
+      links = length xs;
+    }

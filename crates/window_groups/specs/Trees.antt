@@ -1,0 +1,75 @@
+-- What the code reads off a forest of the window's links: a group is a tree, and its least hold is the smallest label of a
+-- parent step in it, less 1. That this is what Groups.antt says is proved (proofs/GroupTrees.antt).
+use Prim.Native.Nat.{ℕ, _-_, _≤_, _<_, min}
+use mathlib.Core.Bool.{cond}
+use mathlib.Core.List.{List, [], _∷_, reverse}
+use lib.Dec.{eqb}
+use lib.ListN.{length, getD}
+use Rattle.forest.specs.Arrays.{countFrom, parentIn, labelIn}
+use Rattle.book_state.specs.Arrays.{Arrays, cells, freshArrays, unitedAll}
+use Rattle.book_state.specs.declared.Book.{Book}
+use Rattle.window.specs.Window.{windowLinks}
+use Rattle.window_groups.specs.declared.trees.WindowForest.{WindowForest}
+use Rattle.window_groups.specs.declared.trees.Tallies.{Tallies}
+use Rattle.window_groups.specs.declared.Groups.{Groups}
+use Rattle.window_groups.specs.Groups.{those, smallest, ofCells}
+
+-- the window's links united, newest slide first
+abbrev pub windowArrays : Book → List ℕ → Arrays
+windowArrays b log = unitedAll freshArrays (reverse (windowLinks b log))
+
+unfoldable pub windowForestOf : Book → List ℕ → WindowForest
+windowForestOf b log =
+    record { parent = windowArrays b log .parents; label = windowArrays b log .labels; count = length (windowLinks b log) }
+
+-- the root of a cell, in a list of the cells' roots
+abbrev pub rootIn : List ℕ → ℕ → ℕ
+rootIn roots c = getD roots c 0
+
+-- each root is a cell
+abbrev pub Roots : List ℕ → Type 0
+Roots roots = (c : ℕ) → rootIn roots c < cells
+
+-- the cells whose root is r
+abbrev pub treeOf : (ℕ → ℕ) → ℕ → List ℕ
+treeOf root r = those (λ c. eqb (root c) r) (countFrom 0 cells)
+
+-- what f gives of each root's tree
+abbrev pub ofTrees : (List ℕ → ℕ) → (ℕ → ℕ) → List ℕ
+ofTrees f root = ofCells (λ r. f (treeOf root r))
+
+-- the label of c's step, if that is smaller; a root has no step
+abbrev pub lower : ℕ → ℕ → ℕ → ℕ → ℕ
+lower c parent label least = cond (eqb parent c) least (min label least)
+
+-- the smallest label of a parent step from one of the cells; top where there is none
+unfoldable pub leastLabel : ℕ → (ℕ → ℕ) → (ℕ → ℕ) → List ℕ → ℕ
+leastLabel top parent label [] = top
+leastLabel top parent label (c ∷ cs) = lower c (parent c) (label c) (leastLabel top parent label cs)
+
+-- of each root's tree its smallest cell, number of cells and smallest label
+unfoldable pub talliesOf : List ℕ → List ℕ → List ℕ → ℕ → Tallies
+talliesOf roots ps ls top =
+    record {
+      first = ofTrees smallest (rootIn roots);
+      count = ofTrees length (rootIn roots);
+      least = ofTrees (leastLabel top (parentIn ps) (labelIn ls)) (rootIn roots);
+    }
+
+-- what a list tells at the root of a cell
+abbrev pub atRoot : List ℕ → List ℕ → ℕ → ℕ
+atRoot roots told c = getD told (rootIn roots c) 0
+
+-- and that is 1 or more
+abbrev pub FromOne : List ℕ → List ℕ → Type 0
+FromOne roots told = (c : ℕ) → c < cells → 1 ≤ atRoot roots told c
+
+-- of each cell what stands at its root; the hold is the smallest label, less 1
+unfoldable pub groupsAt : List ℕ → Tallies → ℕ → Groups
+groupsAt roots t links =
+    record {
+      first = ofCells (atRoot roots (t .first));
+      count = ofCells (atRoot roots (t .count));
+      hold = ofCells (λ c. atRoot roots (t .least) c - 1);
+      links = links;
+    }

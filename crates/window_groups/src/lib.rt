@@ -1,0 +1,28 @@
+// The groups of a window: cells that its links chain together. A group is a tree of the forest of those links, so what is told of
+// a cell's group is read off the forest, at the cell's root.
+mod trees; // trees.rt: the forest of a window's links, and what its trees tell
+
+use book_state::Book;
+ghost use mathlib.Core.Path.{_≡_};
+ghost use Rattle.book_state.specs.Log.{Readable};
+ghost use Rattle.window_groups.specs.Groups.{groupsOf};
+
+// Of each cell, what its group is: its smallest cell, how many cells it has, and the least hold over its pairs. And how many links
+// the window has.
+pub struct Groups {
+    pub first: [u16; 1024],
+    pub count: [u16; 1024],
+    pub hold: [u8; 1024],
+    pub links: usize,
+}
+
+// The groups of a book's window.
+pub fn of_window(book: Book, log: &[u16]) -> Groups
+    requires { ⌜ Readable (book .clock .n) (book .counts) (now log) ⌝ }
+    ensures { λ r. ⌜ r ≡ groupsOf book (now (log .entry)) ⌝ }
+{
+    let forest = trees::window_forest(book, log);
+    let root = forest::walks::roots(&forest.parent, 10);
+    let tallies = trees::tally(&root, &forest.parent, &forest.label, book.clock.n + 1);
+    trees::at_roots(&root, tallies, forest.count)
+}
