@@ -12,16 +12,16 @@ use Rattle.settings.specs.declared.Settings.{Settings}
 use Rattle.cells.specs.Cell.{lorryCell}
 use Rattle.slides.specs.Clock.{notBefore, slideOf, openSlide, chunkOf, placeOf, started}
 use Rattle.slides.specs.declared.Clock.{Clock}
-use Rattle.forest_unite.specs.United.{hangOf, hungParents, hungSizes}
-use Rattle.forest_unite.specs.declared.Hang.{Hang}
+use Rattle.forest_unite.specs.United.{mergeOf, mergedParents, mergedSizes}
+use Rattle.forest_unite.specs.declared.Merge.{Merge}
 use Rattle.book_state.specs.declared.Book.{Book}
-use Rattle.book_state.specs.Arrays.{most}
+use Rattle.book_state.specs.Arrays.{stepLimit}
 use Rattle.book_state.specs.Numbers.{firstOf, unless, has, logPlaces, areCells}
 use Rattle.book_state.specs.Log.{halfOf, spotOf, startOf, stored}
 use Rattle.book_state.specs.Order.{bookOf, inOrder}
 use Rattle.book_time.specs.Time.{emptied, movedBook}
 use Rattle.book.specs.declared.Answer.{Answer}
-use Rattle.book.specs.declared.lent.LentAnswer.{LentAnswer}
+use Rattle.book.specs.declared.fields.FieldsAnswer.{FieldsAnswer}
 
 -- the book and its log together are the state; what a call makes of it, and the number that it gives
 pub record Outcome : Type 0 where
@@ -35,8 +35,8 @@ pub record Gives (o : Outcome) (answer : Answer) (log : List ℕ) : Type 0 where
   pub logged : log ≡ o .log
 
 -- the same of an answer and the fields of a book that were lent
-abbrev pub GivesLent : Outcome → LentAnswer → List ℕ → List ℕ → List ℕ → List ℕ → List ℕ → List ℕ → List ℕ → Type 0
-GivesLent o answer counts forwardParent forwardSize backwardParent backwardSize backwardLabel log =
+abbrev pub GivesFields : Outcome → FieldsAnswer → List ℕ → List ℕ → List ℕ → List ℕ → List ℕ → List ℕ → List ℕ → Type 0
+GivesFields o answer counts forwardParent forwardSize backwardParent backwardSize backwardLabel log =
     Gives o (record { book = bookOf (answer .clock) (answer .mounting) counts forwardParent forwardSize backwardParent backwardSize backwardLabel; number = answer .number }) log
 
 -- ---- opening: 2, 6
@@ -44,13 +44,13 @@ GivesLent o answer counts forwardParent forwardSize backwardParent backwardSize 
 unfoldable pub openingNumber : Settings → List ℕ → ℕ
 openingNumber s log = firstOf (takenNumber s ∷ unless (has logPlaces log) 6 ∷ [])
 
-unfoldable pub openingBy : ℕ → Book → List ℕ → Settings → Outcome
-openingBy zero b log s =
+unfoldable pub openingByNumber : ℕ → Book → List ℕ → Settings → Outcome
+openingByNumber zero b log s =
     record { book = emptied (started s) (s .mounting); log = replicate logPlaces 0 ++ drop logPlaces log; number = 0 }
-openingBy (suc k) b log s = record { book = b; log = log; number = suc k }
+openingByNumber (suc k) b log s = record { book = b; log = log; number = suc k }
 
 unfoldable pub openingOf : Book → List ℕ → Settings → Outcome
-openingOf b log s = openingBy (openingNumber s log) b log s
+openingOf b log s = openingByNumber (openingNumber s log) b log s
 
 -- ---- link: 1, 6, 3, 4, 5
 
@@ -84,12 +84,12 @@ linkStored b log one other =
     let spot : ℕ = openSpot (b .clock) in
     let count : ℕ = getD (b .counts) spot 0 in
     let at : ℕ = startOf spot + (count + count) in
-    let h : Hang = hangOf (b .«forward_parent») (b .«forward_size») most one other in
+    let h : Merge = mergeOf (b .«forward_parent») (b .«forward_size») stepLimit one other in
     record {
       book =
           record {
-            «forward_parent» = hungParents (b .«forward_parent») h;
-            «forward_size» = hungSizes (b .«forward_size») h;
+            «forward_parent» = mergedParents (b .«forward_parent») h;
+            «forward_size» = mergedSizes (b .«forward_size») h;
             «backward_parent» = b .«backward_parent»;
             «backward_size» = b .«backward_size»;
             counts = set (b .counts) spot (count + 1);
@@ -102,13 +102,13 @@ linkStored b log one other =
     }
 
 -- the time moves first; links arrive in the unit's numbers and are stored in the lorry's
-unfoldable pub linkBy : ℕ → Book → List ℕ → ℕ → ℕ → ℕ → Outcome
-linkBy zero b log tick one other =
+unfoldable pub linkByNumber : ℕ → Book → List ℕ → ℕ → ℕ → ℕ → Outcome
+linkByNumber zero b log tick one other =
     linkStored (movedBook b log tick) log (lorryCell (b .mounting) one) (lorryCell (b .mounting) other)
-linkBy (suc k) b log tick one other = record { book = b; log = log; number = suc k }
+linkByNumber (suc k) b log tick one other = record { book = b; log = log; number = suc k }
 
 unfoldable pub linkOf : Book → List ℕ → ℕ → ℕ → ℕ → Outcome
-linkOf b log tick one other = linkBy (linkNumber b log tick one other) b log tick one other
+linkOf b log tick one other = linkByNumber (linkNumber b log tick one other) b log tick one other
 
 -- ---- clock: 1, 6, 4
 
@@ -119,9 +119,9 @@ clockNumberIn ordered clock log tick =
 unfoldable pub clockNumber : Book → List ℕ → ℕ → ℕ
 clockNumber b log tick = clockNumberIn (inOrder b) (b .clock) log tick
 
-unfoldable pub clockBy : ℕ → Book → List ℕ → ℕ → Outcome
-clockBy zero b log tick = record { book = movedBook b log tick; log = log; number = 0 }
-clockBy (suc k) b log tick = record { book = b; log = log; number = suc k }
+unfoldable pub clockByNumber : ℕ → Book → List ℕ → ℕ → Outcome
+clockByNumber zero b log tick = record { book = movedBook b log tick; log = log; number = 0 }
+clockByNumber (suc k) b log tick = record { book = b; log = log; number = suc k }
 
 unfoldable pub clockOf : Book → List ℕ → ℕ → Outcome
-clockOf b log tick = clockBy (clockNumber b log tick) b log tick
+clockOf b log tick = clockByNumber (clockNumber b log tick) b log tick

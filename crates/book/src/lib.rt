@@ -1,6 +1,6 @@
 // The calls that change the book of links and its log: opening, link and clock. Each asks for its number first; where that
 // is 0 its effects follow, and else nothing changes.
-pub mod lent; // lent.rt: the same over the fields of a book, each lent where it stands
+pub mod fields; // fields.rt: the same over the fields of a book, each lent where it stands
 mod numbers; // numbers.rt: the number of each call, the first check that fails
 
 use settings::Settings;
@@ -24,7 +24,7 @@ pub fn opening(book: Book, log: &mut [u16], s: Settings) -> Answer
     let mut backward_parent = book.backward_parent;
     let mut backward_size = book.backward_size;
     let mut backward_label = book.backward_label;
-    let answer = lent::opening(
+    let answer = fields::opening(
         book.clock,
         book.mounting,
         &mut counts,
@@ -63,7 +63,7 @@ pub fn link(book: Book, log: &mut [u16], tick: u32, one: u16, other: u16) -> Ans
     let mut backward_parent = book.backward_parent;
     let mut backward_size = book.backward_size;
     let mut backward_label = book.backward_label;
-    let answer = lent::link(
+    let answer = fields::link(
         book.clock,
         book.mounting,
         &mut counts,
@@ -104,7 +104,7 @@ pub fn clock(book: Book, log: &[u16], tick: u32) -> Answer
     let mut backward_parent = book.backward_parent;
     let mut backward_size = book.backward_size;
     let mut backward_label = book.backward_label;
-    let answer = lent::clock(
+    let answer = fields::clock(
         book.clock,
         book.mounting,
         &mut counts,

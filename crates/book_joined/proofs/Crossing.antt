@@ -19,33 +19,33 @@ use Rattle.forest_cross.specs.Across.{Across, here, by-backward, by-forward, Ke
 use Rattle.forest.specs.Arrays.{freshParents, parentIn, parentAtIn, rootsOf, rootsAtOf}
 use Rattle.forest.proofs.Fill.{length-each, getD-each}
 use Rattle.forest.proofs.Held.{root-below}
-use Rattle.book_state.specs.Arrays.{cells, most}
+use Rattle.book_state.specs.Arrays.{cells, stepLimit}
 use Rattle.book_joined.specs.Askable.{Askable}
-use Rattle.book_joined.specs.Joined.{forwardSteps, backwardSteps, stepLinksOf}
+use Rattle.book_joined.specs.Joined.{parentSteps, parentStepsAt, stepLinksOf}
 use Rattle.book_joined.proofs.Rooted.{Rooted, forward-rooted, backward-rooted}
 use Rattle.book_joined.proofs.Steps.{Steps, steps-linked, steps-chain, forward-steps, backward-steps}
 
 -- each cell's root
 abbrev rootsBy : (ℕ → ℕ) → List ℕ
-rootsBy up = map (λ c. climb up most c .root) (freshParents cells)
+rootsBy up = map (λ c. climb up stepLimit c .root) (freshParents cells)
 
 long : (up : ℕ → ℕ) → length (rootsBy up) ≡ cells
-long up = length-each (λ c. climb up most c .root) cells
+long up = length-each (λ c. climb up stepLimit c .root) cells
 
-key : (up : ℕ → ℕ) (c : ℕ) → c < cells → getD (rootsBy up) c 0 ≡ climb up most c .root
-key up c h = getD-each (λ c. climb up most c .root) cells c 0 h
+key : (up : ℕ → ℕ) (c : ℕ) → c < cells → getD (rootsBy up) c 0 ≡ climb up stepLimit c .root
+key up c h = getD-each (λ c. climb up stepLimit c .root) cells c 0 h
 
 -- ---- one forest
 
 module _ {up : ℕ → ℕ} (r : Rooted up) where
   roots-keyed : Keyed (rootsBy up)
   roots-keyed =
-      record { inside = λ c h. let i : c < cells = rw (long up) at h in rw (long up, key up c i) (root-below up cells (r .inside) most c i) }
+      record { inside = λ c h. let i : c < cells = rw (long up) at h in rw (long up, key up c i) (root-below up cells (r .inside) stepLimit c i) }
 
   module _ {ls : List Link} (steps : Steps up 0 ls) where
     -- the cells of one root are chained
-    root-chained : (a b : ℕ) → climb up most a .root ≡ climb up most b .root → Chained ls a b
-    root-chained a b = steps-chain most (r .way) steps a b .1
+    root-chained : (a b : ℕ) → climb up stepLimit a .root ≡ climb up stepLimit b .root → Chained ls a b
+    root-chained a b = steps-chain stepLimit (r .way) steps a b .1
 
     key-chained : {a b : ℕ} → a < cells → b < cells → getD (rootsBy up) a 0 ≡ getD (rootsBy up) b 0 → Chained ls a b
     key-chained {a} {b} h i e = root-chained a b (sym (key up a h) ∙ e ∙ key up b i)
@@ -62,7 +62,7 @@ module _ {up : ℕ → ℕ} (r : Rooted up) where
     linked-key : {a b : ℕ} → a < cells → Linked a b ls → (b < cells) × (getD (rootsBy up) a 0 ≡ getD (rootsBy up) b 0)
     linked-key {a} {b} h l =
         let i : b < cells = linked-cell h l in
-        (i, key up a h ∙ steps-chain most (r .way) steps a b .0 (chained-one l) ∙ sym (key up b i))
+        (i, key up a h ∙ steps-chain stepLimit (r .way) steps a b .0 (chained-one l) ∙ sym (key up b i))
 
 -- ---- both
 
@@ -102,22 +102,22 @@ module _ {backward labels forward : List ℕ} {cut one other : ℕ} (asked : Ask
   forth = forward-rooted (asked .forward-sound)
 
   -- the crossing may begin
-  pub backward-keyed : Keyed (rootsAtOf backward labels most cut cells)
+  pub backward-keyed : Keyed (rootsAtOf backward labels stepLimit cut cells)
   backward-keyed = roots-keyed back
 
-  pub forward-keyed : Keyed (rootsOf forward most cells)
+  pub forward-keyed : Keyed (rootsOf forward stepLimit cells)
   forward-keyed = roots-keyed forth
 
   -- one root in one forest decides
-  pub backward-decides : climb (parentAtIn backward labels cut) most one .root ≡ climb (parentAtIn backward labels cut) most other .root
+  pub backward-decides : climb (parentAtIn backward labels cut) stepLimit one .root ≡ climb (parentAtIn backward labels cut) stepLimit other .root
       → true ≡ chains (stepLinksOf cut backward labels forward) one other
-  backward-decides e = sym (true-chains (chained-left (forwardSteps 0 forward) (root-chained back (backward-steps cut backward labels (asked .above)) one other e)))
+  backward-decides e = sym (true-chains (chained-left (parentSteps 0 forward) (root-chained back (backward-steps cut backward labels (asked .above)) one other e)))
 
-  pub forward-decides : climb (parentIn forward) most one .root ≡ climb (parentIn forward) most other .root
+  pub forward-decides : climb (parentIn forward) stepLimit one .root ≡ climb (parentIn forward) stepLimit other .root
       → true ≡ chains (stepLinksOf cut backward labels forward) one other
-  forward-decides e = sym (true-chains (chained-right (backwardSteps cut 0 backward labels) (root-chained forth (forward-steps forward) one other e)))
+  forward-decides e = sym (true-chains (chained-right (parentStepsAt cut 0 backward labels) (root-chained forth (forward-steps forward) one other e)))
 
   -- and the crossing always does
-  pub across-decides : (answer : Bool) → JoinedAcross (rootsAtOf backward labels most cut cells) (rootsOf forward most cells) one other answer
+  pub across-decides : (answer : Bool) → JoinedAcross (rootsAtOf backward labels stepLimit cut cells) (rootsOf forward stepLimit cells) one other answer
       → answer ≡ chains (stepLinksOf cut backward labels forward) one other
   across-decides = crossing-answers back forth (backward-steps cut backward labels (asked .above)) (forward-steps forward) (asked .one-cell)

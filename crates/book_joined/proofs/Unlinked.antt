@@ -15,9 +15,9 @@ use Rattle.forest_check.proofs.Every.{every-each}
 use Rattle.forest.proofs.Climb.{climb-stays, climb-goes, climb-none}
 use Rattle.forest.proofs.Fill.{length-countFrom}
 use Rattle.book_state.specs.Arrays.{cells}
-use Rattle.book_joined.specs.Alone.{apart, aloneIn}
+use Rattle.book_joined.specs.Alone.{spares, aloneIn}
 use Rattle.book_joined.specs.Askable.{Askable}
-use Rattle.book_joined.specs.Joined.{backwardSteps, stepLinksOf}
+use Rattle.book_joined.specs.Joined.{parentStepsAt, stepLinksOf}
 use Rattle.book_joined.proofs.Crossing.{linked-cell}
 use Rattle.book_joined.proofs.Rooted.{Rooted, forward-rooted, backward-rooted}
 use Rattle.book_joined.proofs.Steps.{Steps, steps-linked, forward-steps, backward-steps}
@@ -28,22 +28,22 @@ alone-uncut ps ls asked = ap (λ up. aloneIn up asked) (fun-ext (λ c. rw (le-lt
 
 -- ---- no link names it
 
-own-parent : (asked parent : ℕ) → apart asked asked parent ≡ true → parent ≡ asked
+own-parent : (asked parent : ℕ) → spares asked asked parent ≡ true → parent ≡ asked
 own-parent asked parent e = eqb-true parent asked (rw (eq-eqb asked asked refl) at e)
 
-no-parent : {asked cell parent : ℕ} → ¬ (cell ≡ asked) → apart asked cell parent ≡ true → ¬ (parent ≡ asked)
+no-parent : {asked cell parent : ℕ} → ¬ (cell ≡ asked) → spares asked cell parent ≡ true → ¬ (parent ≡ asked)
 no-parent {asked} {cell} {parent} n e = eqb-false parent asked (not-true _ (rw (ne-eqb cell asked n) at e))
 
 module _ {up : ℕ → ℕ} (r : Rooted up) {ls : List Link} (steps : Steps up 0 ls) {asked : ℕ} (inside : asked < cells) (e : aloneIn up asked ≡ true) where
-  apart-at : (c : ℕ) → c < cells → apart asked c (up c) ≡ true
-  apart-at c h = every-each (λ cell _. apart asked cell (up cell)) (freshParents cells) e c (rw length-countFrom h)
+  spares-at : (c : ℕ) → c < cells → spares asked c (up c) ≡ true
+  spares-at c h = every-each (λ cell _. spares asked cell (up cell)) (freshParents cells) e c (rw length-countFrom h)
 
   alone-unlinked : (c : ℕ) → Linked asked c ls → ⊥
   alone-unlinked c l =
       let ends = steps-linked steps asked c .0 l in
       ⊎-elim
-      (λ q. ends .0 (sym (own-parent asked (up asked) (apart-at asked inside)) ∙ q))
-      (no-parent (λ s. ends .0 (sym s)) (apart-at c (linked-cell r steps inside l)))
+      (λ q. ends .0 (sym (own-parent asked (up asked) (spares-at asked inside)) ∙ q))
+      (no-parent (λ s. ends .0 (sym s)) (spares-at c (linked-cell r steps inside l)))
       (ends .1)
 
 -- so a cell that takes a step does not stand alone
@@ -55,7 +55,7 @@ goes-not-alone up {asked} inside goes = by _ refl
     by true e =
         absurd
         (goes
-        (own-parent asked (up asked) (every-each (λ cell _. apart asked cell (up cell)) (freshParents cells) e asked (rw length-countFrom inside))))
+        (own-parent asked (up asked) (every-each (λ cell _. spares asked cell (up cell)) (freshParents cells) e asked (rw length-countFrom inside))))
 
 -- one step of a walk is the step
 pub one-step : (up : ℕ → ℕ) (c : ℕ) → climb up 1 c .root ≡ up c
@@ -83,7 +83,7 @@ module _ {backward labels forward : List ℕ} {cut one other : ℕ} (asked : Ask
       ⊎-elim
       (alone-unlinked (backward-rooted (asked .backward-sound) labels cut) (backward-steps cut backward labels (asked .above)) h (both .0) c)
       (alone-unlinked (forward-rooted (asked .forward-sound)) (forward-steps forward) h (both .1) c)
-      (linked-append-cases (backwardSteps cut 0 backward labels) l)
+      (linked-append-cases (parentStepsAt cut 0 backward labels) l)
 
   pub one-alone : aloneIn (parentAtIn backward labels cut) one && aloneIn (parentIn forward) one ≡ true
       → eqb one other ≡ chains (stepLinksOf cut backward labels forward) one other

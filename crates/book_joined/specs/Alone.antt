@@ -7,9 +7,9 @@ use Rattle.forest.specs.Arrays.{freshParents}
 use Rattle.book_state.specs.Arrays.{cells}
 
 -- what a cell and its parent say of the cell that is asked for: it is its own parent, and no other cell's
-abbrev pub apart : ℕ → ℕ → ℕ → Bool
-apart asked cell parent = cond (eqb cell asked) (eqb parent asked) (not (eqb parent asked))
+abbrev pub spares : ℕ → ℕ → ℕ → Bool
+spares asked cell parent = cond (eqb cell asked) (eqb parent asked) (not (eqb parent asked))
 
 -- all cells say so
 abbrev pub aloneIn : (ℕ → ℕ) → ℕ → Bool
-aloneIn up asked = every (λ cell _. apart asked cell (up cell)) 0 (freshParents cells)
+aloneIn up asked = every (λ cell _. spares asked cell (up cell)) 0 (freshParents cells)

@@ -5,12 +5,12 @@ use mathlib.Core.Bool.{true}
 use mathlib.Core.List.{List}
 use lib.ListN.{length}
 use Rattle.forest_check.specs.Sound.{soundOf}
-use Rattle.book_state.specs.Arrays.{cells, most}
+use Rattle.book_state.specs.Arrays.{cells, stepLimit}
 
 -- parents that number 1 lets pass, whatever the sizes: each is a cell, and no walk exceeds 10 steps
 pub record Sound (parents : List ℕ) : Type 0 where
   pub sizes : List ℕ
-  pub sound : soundOf parents sizes most ≡ true
+  pub sound : soundOf parents sizes stepLimit ≡ true
   pub long : length parents ≡ cells
 
 -- the parents of both forests, the labels of the backward one, a cut above place 0, and two cells

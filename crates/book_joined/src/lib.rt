@@ -12,7 +12,7 @@ ghost use Rattle.graph.specs.Link.{chains};
 ghost use Rattle.forest.specs.Arrays.{parentIn, parentAtIn};
 ghost use Rattle.slides.specs.Clock.{placeOf, openSlide};
 ghost use Rattle.book_state.specs.Order.{bookOf};
-ghost use Rattle.book_joined.specs.Alone.{apart, aloneIn};
+ghost use Rattle.book_joined.specs.Alone.{spares, aloneIn};
 ghost use Rattle.book_joined.specs.Askable.{Askable};
 ghost use Rattle.book_joined.specs.Joined.{stepLinksOf, answerOf, joinedOf};
 
@@ -28,7 +28,7 @@ pub struct JoinedAnswer {
 pub fn joined(book: Book, one: u16, other: u16) -> JoinedAnswer
     ensures { λ r. ⌜ r ≡ joinedOf book one other ⌝ }
 {
-    lent(
+    over_fields(
         book.clock,
         book.mounting,
         &book.counts,
@@ -43,7 +43,7 @@ pub fn joined(book: Book, one: u16, other: u16) -> JoinedAnswer
 }
 
 // The same over the fields of a book, each lent where it stands: no copy of the book is made.
-pub fn lent<'a>(
+pub fn over_fields<'a>(
     clock: Clock,
     mounting: u8,
     counts: &'a [u16; 32],
@@ -204,7 +204,7 @@ fn alone_in<'a>(parent: &'a [u16], label: &'a [u8], cut: u8, asked: u16) -> bool
     let mut cell: u16 = 0;
     while cell < 1024 {
         let at = cell as usize;
-        if !apart(asked, cell, parent[at], label[at], cut) {
+        if !spares(asked, cell, parent[at], label[at], cut) {
             return false;
         }
         cell += 1;
@@ -214,8 +214,8 @@ fn alone_in<'a>(parent: &'a [u16], label: &'a [u8], cut: u8, asked: u16) -> bool
 
 // Whether the cell asked for is this cell and its own parent at the cut, or neither this cell nor its parent. The label is
 // asked last: labels are hard to foresee for the processor, and few cells come so far.
-fn apart(asked: u16, cell: u16, parent: u16, label: u8, cut: u8) -> bool
-    ensures { λ r. ⌜ r ≡ apart asked cell (cond (ltb label cut) cell parent) ⌝ }
+fn spares(asked: u16, cell: u16, parent: u16, label: u8, cut: u8) -> bool
+    ensures { λ r. ⌜ r ≡ spares asked cell (cond (ltb label cut) cell parent) ⌝ }
 {
     if cell == asked {
         if parent == asked {

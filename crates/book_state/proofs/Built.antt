@@ -12,15 +12,15 @@ use borrow.Author.Tests.{eq-eqb}
 use Rattle.graph.specs.Forest.{Forest, Labelled, Each, empty, also, EndsBelow, walk, unite, forestOf}
 use Rattle.graph.proofs.Forests.{walk-ends, size-positive, size-bounded, parent-below}
 use Rattle.forest.specs.Arrays.{parentIn, sizeIn, held}
-use Rattle.forest_unite.specs.United.{hangOf, hungLabels}
+use Rattle.forest_unite.specs.United.{mergeOf, mergedLabels}
 use Rattle.forest_check.specs.Sound.{soundOf, ends}
-use Rattle.forest_unite.specs.declared.Hang.{Hang}
+use Rattle.forest_unite.specs.declared.Merge.{Merge}
 use Rattle.forest.proofs.Fill.{length-countFrom}
 use Rattle.forest.proofs.Ranged.{Ranged}
 use Rattle.forest_check.proofs.Facts.{ranged-sound}
 use Rattle.forest.proofs.Held.{held-fresh}
 use Rattle.forest_unite.proofs.United.{each, held-unite, ranged-unite}
-use Rattle.book_state.specs.Arrays.{cells, most, Arrays, freshArrays, united, unitedAll}
+use Rattle.book_state.specs.Arrays.{cells, stepLimit, Arrays, freshArrays, united, unitedAll}
 
 -- ---- each of a list, from its end
 
@@ -34,8 +34,8 @@ each-reverse ps = each-onto ps empty
 -- ---- lists that hold a forest
 
 module _ (ps ss : List ℕ) {xs : List Labelled} (long : (length ps ≡ cells) × (length ss ≡ cells))
-    (parents : parentIn ps ≡ forestOf most xs .parent) (sizes : sizeIn ss ≡ forestOf most xs .size) (below : EndsBelow cells xs) where
-  enough : 10 ≤ most
+    (parents : parentIn ps ≡ forestOf stepLimit xs .parent) (sizes : sizeIn ss ≡ forestOf stepLimit xs .size) (below : EndsBelow cells xs) where
+  enough : 10 ≤ stepLimit
   enough = le-refl 10
 
   pub forest-ranged : Ranged cells ps ss
@@ -48,12 +48,12 @@ module _ (ps ss : List ℕ) {xs : List Labelled} (long : (length ps ≡ cells) �
         size-to = λ c h. subst⁻¹ (λ size. size c ≤ cells) sizes (size-bounded enough below c);
       }
 
-  forest-ends : (c : ℕ) → ends (parentIn ps) most c ≡ true
+  forest-ends : (c : ℕ) → ends (parentIn ps) stepLimit c ≡ true
   unfolding walk
-  forest-ends c = subst⁻¹ (λ up. ends up most c ≡ true) parents (eq-eqb _ _ (walk-ends enough below c))
+  forest-ends c = subst⁻¹ (λ up. ends up stepLimit c ≡ true) parents (eq-eqb _ _ (walk-ends enough below c))
 
-  pub forest-sound : soundOf ps ss most ≡ true
-  forest-sound = ranged-sound ps ss most (rw (long .0) forest-ranged) (λ c h. forest-ends c)
+  pub forest-sound : soundOf ps ss stepLimit ≡ true
+  forest-sound = ranged-sound ps ss stepLimit (rw (long .0) forest-ranged) (λ c h. forest-ends c)
 
 -- ---- links united one after the other
 
@@ -62,7 +62,7 @@ pub record Holds (xs : List Labelled) (a : Arrays) : Type 0 where
   pub parents-long : length (a .parents) ≡ cells
   pub sizes-long : length (a .sizes) ≡ cells
   pub labels-long : length (a .labels) ≡ cells
-  pub holds : held (a .parents) (a .sizes) (a .labels) ≡ forestOf most xs
+  pub holds : held (a .parents) (a .sizes) (a .labels) ≡ forestOf stepLimit xs
 
 pub holds-fresh : Holds [] freshArrays
 unfolding forestOf
@@ -74,8 +74,8 @@ holds-fresh =
       holds = held-fresh cells;
     }
 
-labels-as-long : (ls : List ℕ) (h : Hang) (label : ℕ) → length (hungLabels ls h label) ≡ length ls
-labels-as-long ls h label = go (h .apart)
+labels-as-long : (ls : List ℕ) (h : Merge) (label : ℕ) → length (mergedLabels ls h label) ≡ length ls
+labels-as-long ls h label = go (h .different)
   where
     go : (t : Bool) → length (cond t (set ls (h .child) label) ls) ≡ length ls
     go true = length-set ls (h .child) label
@@ -89,14 +89,14 @@ module _ (x : Labelled) {xs : List Labelled} {a : Arrays} (cell : (x .link .one 
       forest-ranged (a .parents) (a .sizes) (on .parents-long, on .sizes-long) (ap (λ f. f .parent) (on .holds))
       (ap (λ f. f .size) (on .holds)) ends
 
-  as-forest : unite most (held (a .parents) (a .sizes) (a .labels)) x ≡ forestOf most (x ∷ xs)
+  as-forest : unite stepLimit (held (a .parents) (a .sizes) (a .labels)) x ≡ forestOf stepLimit (x ∷ xs)
   unfolding forestOf
-  as-forest = ap (λ f. unite most f x) (on .holds)
+  as-forest = ap (λ f. unite stepLimit f x) (on .holds)
 
   ranged-more : Ranged cells (united a x .parents) (united a x .sizes)
   unfolding united
   ranged-more =
-      ranged-unite (a .parents) (a .sizes) (a .labels) (x .label) ranged (omega arith) (each (on .labels-long)) most (x .link)
+      ranged-unite (a .parents) (a .sizes) (a .labels) (x .label) ranged (omega arith) (each (on .labels-long)) stepLimit (x .link)
       (cell .0) (cell .1)
       (λ c l. subst⁻¹ (λ (f : Forest). f .size c ≤ cells) as-forest (size-bounded (le-refl 10) (also cell ends) c))
 
@@ -107,10 +107,10 @@ module _ (x : Labelled) {xs : List Labelled} {a : Arrays} (cell : (x .link .one 
         parents-long = ranged-more .parents-long;
         sizes-long = ranged-more .sizes-long;
         labels-long =
-            labels-as-long (a .labels) (hangOf (a .parents) (a .sizes) most (x .link .one) (x .link .other)) (x .label)
+            labels-as-long (a .labels) (mergeOf (a .parents) (a .sizes) stepLimit (x .link .one) (x .link .other)) (x .label)
             ∙ on .labels-long;
         holds =
-            held-unite (a .parents) (a .sizes) (a .labels) (x .label) ranged (omega arith) (each (on .labels-long)) most (x .link)
+            held-unite (a .parents) (a .sizes) (a .labels) (x .label) ranged (omega arith) (each (on .labels-long)) stepLimit (x .link)
             (cell .0) (cell .1)
             ∙ as-forest;
       }

@@ -15,7 +15,7 @@ use Rattle.slides.proofs.Slides.{InRange, in-range}
 use Rattle.forest_check.specs.Sound.{every, within, soundOf, labelsWithin}
 use Rattle.forest_check.proofs.Every.{every-each, within-high}
 use Rattle.book_state.specs.declared.Book.{Book}
-use Rattle.book_state.specs.Arrays.{cells, most}
+use Rattle.book_state.specs.Arrays.{cells, stepLimit}
 use Rattle.book_state.specs.Log.{Readable}
 use Rattle.book_state.specs.Numbers.{firstOf, unless, has, logPlaces, areCells}
 use Rattle.book_state.specs.Order.{inOrderOf, inOrder, neverOpened}
@@ -84,8 +84,8 @@ pub record Ordered (b : Book) : Type 0 where
   pub timely : clockInRange (b .clock) ≡ true
   pub held : heldInRange (b .clock .n) (b .clock .b) (b .mounting) ≡ true
   pub few : every (within 0 257) 0 (b .counts) ≡ true
-  pub forward : soundOf (b .«forward_parent») (b .«forward_size») most ≡ true
-  pub backward : soundOf (b .«backward_parent») (b .«backward_size») most ≡ true
+  pub forward : soundOf (b .«forward_parent») (b .«forward_size») stepLimit ≡ true
+  pub backward : soundOf (b .«backward_parent») (b .«backward_size») stepLimit ≡ true
   pub labels : labelsWithin (b .«backward_label») 15 ≡ true
 
 pub ordered : (b : Book) → inOrder b ≡ true → Ordered b
@@ -94,8 +94,8 @@ ordered b e =
     let t = clockInRange (b .clock) in
     let h = heldInRange (b .clock .n) (b .clock .b) (b .mounting) in
     let f = every (within 0 257) 0 (b .counts) in
-    let p = soundOf (b .«forward_parent») (b .«forward_size») most in
-    let q = soundOf (b .«backward_parent») (b .«backward_size») most in
+    let p = soundOf (b .«forward_parent») (b .«forward_size») stepLimit in
+    let q = soundOf (b .«backward_parent») (b .«backward_size») stepLimit in
     let w₅ = and-eq-true-iff (t && h && f && p && q) (labelsWithin (b .«backward_label») 15) .0 e in
     let w₄ = and-eq-true-iff (t && h && f && p) q .0 (w₅ .0) in
     let w₃ = and-eq-true-iff (t && h && f) p .0 (w₄ .0) in

@@ -4,15 +4,15 @@ use Prim.Native.Nat.{ℕ}
 use mathlib.Core.List.{List, [], _∷_}
 use Rattle.graph.specs.Forest.{Labelled}
 use Rattle.forest.specs.Arrays.{freshParents, freshSizes, freshLabels}
-use Rattle.forest_unite.specs.United.{hangOf, hungParents, hungSizes, hungLabels}
-use Rattle.forest_unite.specs.declared.Hang.{Hang}
+use Rattle.forest_unite.specs.United.{mergeOf, mergedParents, mergedSizes, mergedLabels}
+use Rattle.forest_unite.specs.declared.Merge.{Merge}
 
 abbrev pub cells : ℕ
 cells = 1024
 
 -- the steps of a walk, at most
-abbrev pub most : ℕ
-most = 10
+abbrev pub stepLimit : ℕ
+stepLimit = 10
 
 pub record Arrays : Type 0 where
   pub parents : List ℕ
@@ -26,12 +26,12 @@ arraysOf parents sizes labels = record { parents = parents; sizes = sizes; label
 abbrev pub freshArrays : Arrays
 freshArrays = record { parents = freshParents cells; sizes = freshSizes cells; labels = freshLabels cells }
 
-abbrev pub hung : Arrays → ℕ → Hang → Arrays
-hung a label h = record { parents = hungParents (a .parents) h; sizes = hungSizes (a .sizes) h; labels = hungLabels (a .labels) h label }
+abbrev pub mergedArrays : Arrays → ℕ → Merge → Arrays
+mergedArrays a label h = record { parents = mergedParents (a .parents) h; sizes = mergedSizes (a .sizes) h; labels = mergedLabels (a .labels) h label }
 
 -- one link more
 unfoldable pub united : Arrays → Labelled → Arrays
-united a x = hung a (x .label) (hangOf (a .parents) (a .sizes) most (x .link .one) (x .link .other))
+united a x = mergedArrays a (x .label) (mergeOf (a .parents) (a .sizes) stepLimit (x .link .one) (x .link .other))
 
 -- the links of a list, of which the LAST stands at the front
 unfoldable pub unitedAll : Arrays → List Labelled → Arrays

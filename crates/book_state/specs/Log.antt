@@ -33,13 +33,13 @@ abbrev pub pairAt : List ℕ → ℕ → Link
 pairAt log at = record { one = getD log at 0; other = getD log (at + 1) 0 }
 
 -- so many links from a log place on, in order of arrival
-unfoldable pub linksFrom : List ℕ → ℕ → ℕ → List Link
-linksFrom log at zero = []
-linksFrom log at (suc more) = keep (pairAt log at) (linksFrom log (at + 2) more)
+unfoldable pub linksAt : List ℕ → ℕ → ℕ → List Link
+linksAt log at zero = []
+linksAt log at (suc more) = keep (pairAt log at) (linksAt log (at + 2) more)
 
 -- the links of a place, in order of arrival
 abbrev pub placeLinks : List ℕ → List ℕ → ℕ → ℕ → List Link
-placeLinks counts log half place = linksFrom log (startOf (spotOf half place)) (getD counts (spotOf half place) 0)
+placeLinks counts log half place = linksAt log (startOf (spotOf half place)) (getD counts (spotOf half place) 0)
 
 -- a link with the place as its label
 abbrev pub labelled : ℕ → Link → Labelled

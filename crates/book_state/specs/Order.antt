@@ -9,7 +9,7 @@ use Rattle.slides.specs.Clock.{clockInRange}
 use Rattle.slides.specs.declared.Clock.{Clock}
 use Rattle.forest_check.specs.Sound.{every, within, soundOf, labelsWithin}
 use Rattle.book_state.specs.declared.Book.{Book}
-use Rattle.book_state.specs.Arrays.{cells, most}
+use Rattle.book_state.specs.Arrays.{cells, stepLimit}
 
 -- the book of these fields
 abbrev pub bookOf : Clock → ℕ → List ℕ → List ℕ → List ℕ → List ℕ → List ℕ → List ℕ → Book
@@ -31,8 +31,8 @@ inOrderOf clock mounting counts forwardParent forwardSize backwardParent backwar
     clockInRange clock
     && heldInRange (clock .n) (clock .b) mounting
     && every (within 0 257) 0 counts
-    && soundOf forwardParent forwardSize most
-    && soundOf backwardParent backwardSize most
+    && soundOf forwardParent forwardSize stepLimit
+    && soundOf backwardParent backwardSize stepLimit
     && labelsWithin backwardLabel 15
 
 abbrev pub inOrder : Book → Bool

@@ -15,7 +15,7 @@ use Rattle.book_state.specs.declared.Book.{Book}
 use Rattle.book_state.specs.Arrays.{cells, Arrays, arraysOf, unitedAll}
 use Rattle.book_state.specs.Log.{halfOf, spotOf, chunkLinks, stored}
 use Rattle.book_state.specs.Order.{bookOf}
-use Rattle.book_time.specs.Time.{cleared, emptied, Fresh, stayed, backwardOf, turned, movedBy, movedBook}
+use Rattle.book_time.specs.Time.{cleared, emptied, Fresh, stayed, backwardOf, turned, movedByChunk, movedBook}
 
 -- the chunk of the book's time, and that of the tick
 abbrev pub chunkBefore : Book → ℕ
@@ -26,16 +26,16 @@ chunkAfter b tick = chunkOf (b .clock) (slideOf (b .clock) tick)
 
 module _ (b : Book) (log : List ℕ) (tick : ℕ) where
   pub moved-same : chunkAfter b tick ≡ chunkBefore b → movedBook b log tick ≡ stayed b (movedTo (b .clock) tick)
-  unfolding movedBook movedBy
+  unfolding movedBook movedByChunk
   moved-same e = rw (eq-eqb _ _ e)
 
   pub moved-next : chunkAfter b tick ≡ chunkBefore b + 1 → movedBook b log tick ≡ turned b log (movedTo (b .clock) tick)
-  unfolding movedBook movedBy
+  unfolding movedBook movedByChunk
   moved-next e = rw (ne-eqb (chunkAfter b tick) (chunkBefore b) (λ s. omega arith), eq-eqb _ _ e)
 
   pub moved-further : (chunkAfter b tick ≡ chunkBefore b → ⊥) → (chunkAfter b tick ≡ chunkBefore b + 1 → ⊥)
       → movedBook b log tick ≡ emptied (movedTo (b .clock) tick) (b .mounting)
-  unfolding movedBook movedBy
+  unfolding movedBook movedByChunk
   moved-further e d = rw (ne-eqb _ _ e, ne-eqb _ _ d)
 
   pub moved-cases : (P : Book → Type 0)

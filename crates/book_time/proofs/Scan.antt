@@ -9,7 +9,7 @@ use lib.Dec.{ltb}
 use Rattle.graph.specs.Link.{Link}
 use Rattle.graph.specs.Forest.{Labelled}
 use Rattle.book_state.specs.Arrays.{cells, Arrays, united, unitedAll}
-use Rattle.book_state.specs.Log.{keep, pairAt, labelled, linksFrom, placeLinks, chunkLinks}
+use Rattle.book_state.specs.Log.{keep, pairAt, labelled, linksAt, placeLinks, chunkLinks}
 
 -- the last links first
 pub united-append : (a : Arrays) (xs ys : List Labelled) → unitedAll a (xs ++ ys) ≡ unitedAll (unitedAll a ys) xs
@@ -29,11 +29,11 @@ kept-front place l ls = front (ltb (l .one) cells && ltb (l .other) cells)
 
 pub record Scanned (log : List ℕ) (start count place : ℕ) (a b : Arrays) (left : ℕ) : Type 0 where
   pub within : left ≤ count
-  pub tail : b ≡ unitedAll a (map (labelled place) (linksFrom log (start + 2 * left) (count - left)))
+  pub tail : b ≡ unitedAll a (map (labelled place) (linksAt log (start + 2 * left) (count - left)))
 
 module _ {log : List ℕ} {start count place : ℕ} {a b : Arrays} where
   pub scanned-none : b ≡ a → Scanned log start count place a b count
-  unfolding linksFrom unitedAll
+  unfolding linksAt unitedAll
   scanned-none e = record { within = omega arith; tail = rw none e }
     where
       none : count - count ≡ 0
@@ -41,11 +41,11 @@ module _ {log : List ℕ} {start count place : ℕ} {a b : Arrays} where
 
   pub scanned-one : {c : Arrays} {left : ℕ} → Scanned log start count place a b left → 0 < left
       → c ≡ unitedAll b (map (labelled place) (keep (pairAt log (start + 2 * (left - 1))) [])) → Scanned log start count place a c (left - 1)
-  unfolding linksFrom
+  unfolding linksAt
   scanned-one {c} {left} r h e =
       record {
         within = omega (arith, r .within);
-        tail = rw (one, next) (e ∙ rw (r .tail) (sym (united-append a _ _) ∙ ap (unitedAll a) (sym (kept-front place (pairAt log (start + 2 * (left - 1))) (linksFrom log (start + 2 * left) (count - left))))));
+        tail = rw (one, next) (e ∙ rw (r .tail) (sym (united-append a _ _) ∙ ap (unitedAll a) (sym (kept-front place (pairAt log (start + 2 * (left - 1))) (linksAt log (start + 2 * left) (count - left))))));
       }
     where
       one : count - (left - 1) ≡ suc (count - left)
@@ -55,7 +55,7 @@ module _ {log : List ℕ} {start count place : ℕ} {a b : Arrays} where
       next = omega arith
 
   pub scanned-all : {left : ℕ} → Scanned log start count place a b left → left ≤ 0
-      → b ≡ unitedAll a (map (labelled place) (linksFrom log start count))
+      → b ≡ unitedAll a (map (labelled place) (linksAt log start count))
   scanned-all {left} r h = rw (← first, ← all) (r .tail)
     where
       first : start + 2 * left ≡ start

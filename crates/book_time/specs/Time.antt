@@ -74,14 +74,14 @@ turned b log clock =
     }
 
 -- by whether the chunk is the same, and whether it is the next
-unfoldable pub movedBy : Bool → Bool → Book → List ℕ → Clock → Book
-movedBy true next b log clock = stayed b clock
-movedBy false true b log clock = turned b log clock
-movedBy false false b log clock = emptied clock (b .mounting)
+unfoldable pub movedByChunk : Bool → Bool → Book → List ℕ → Clock → Book
+movedByChunk true next b log clock = stayed b clock
+movedByChunk false true b log clock = turned b log clock
+movedByChunk false false b log clock = emptied clock (b .mounting)
 
 -- the book when its time has moved to the tick
 unfoldable pub movedBook : Book → List ℕ → ℕ → Book
 movedBook b log tick =
     let before : ℕ = chunkOf (b .clock) (openSlide (b .clock)) in
     let after : ℕ = chunkOf (b .clock) (slideOf (b .clock) tick) in
-    movedBy (eqb after before) (eqb after (before + 1)) b log (movedTo (b .clock) tick)
+    movedByChunk (eqb after before) (eqb after (before + 1)) b log (movedTo (b .clock) tick)

@@ -7,7 +7,7 @@ ghost use mathlib.Core.List.{map, []};
 ghost use Prim.Native.Nat.{ℕ, _+_, _-_, _*_, _≤_, _<_};
 ghost use lib.ListN.{length};
 ghost use Rattle.book_state.specs.Arrays.{arraysOf, unitedAll};
-ghost use Rattle.book_state.specs.Log.{Readable, keep, labelled, linksFrom, chunkLinks};
+ghost use Rattle.book_state.specs.Log.{Readable, keep, labelled, linksAt, chunkLinks};
 ghost use Rattle.book_state.specs.Order.{bookOf};
 ghost use Rattle.book_time.specs.Time.{cleared, Fresh, movedBook};
 
@@ -126,7 +126,7 @@ fn unite_place(
     label: &mut [u8; 1024],
 )
     requires { ⌜ start + 2 * count ≤ length (now log) ⌝ }
-    ensures { λ _. ⌜ arraysOf (now (parent .exit)) (now (size .exit)) (now (label .exit)) ≡ unitedAll (arraysOf (now (parent .entry)) (now (size .entry)) (now (label .entry))) (map (labelled place) (linksFrom (now (log .entry)) start count)) ⌝ }
+    ensures { λ _. ⌜ arraysOf (now (parent .exit)) (now (size .exit)) (now (label .exit)) ≡ unitedAll (arraysOf (now (parent .entry)) (now (size .entry)) (now (label .entry))) (map (labelled place) (linksAt (now (log .entry)) start count)) ⌝ }
 {
     let mut left = count;
     while 0 < left {

@@ -7,7 +7,7 @@ ghost use lib.ListN.{length, getD};
 ghost use Rattle.buckets.specs.Listed.{Listed};
 
 // The number at a place of a list.
-pub fn number_at(list: &[u16], place: usize) -> usize
+pub fn entry_at(list: &[u16], place: usize) -> usize
     requires { ⌜ place < length (now list) ⌝ }
     ensures { λ r. ⌜ r ≡ getD (now (list .entry)) place 0 ⌝ }
 {
@@ -23,7 +23,7 @@ pub fn list_entries(keys: &[u16], first: &mut [u16], next: &mut [u16])
     let mut entry = keys.len();
     while 0 < entry {
         entry -= 1;
-        let key = number_at(keys, entry);
+        let key = entry_at(keys, entry);
         next[entry] = first[key];
         first[key] = entry as u16;
     }

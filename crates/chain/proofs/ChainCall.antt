@@ -22,7 +22,7 @@ use Rattle.book_state.specs.Arrays.{cells}
 use Rattle.book_state.specs.Order.{inOrder}
 use Rattle.book_state.specs.Numbers.{firstOf, unless, has, logPlaces}
 use Rattle.book_state.proofs.Checks.{passes, fails, last-passes, both-cells, first-no-cell, second-no-cell, has-length, readable}
-use Rattle.window.specs.Window.{windowLinks, linksFrom, highest}
+use Rattle.window.specs.Window.{windowLinks, linksFromLabel, highest}
 use Rattle.window.specs.Gathered.{onesOf, othersOf, labelsOf, Put, linksIn}
 use Rattle.window.proofs.Gathered.{Fits, Fronts, window-fits, put-fronts, put-read}
 use Rattle.window.proofs.Highest.{highest-exactly, highest-most}
@@ -32,7 +32,7 @@ use Rattle.chain_fewest.specs.Lists.{linksOf}
 use Rattle.chain_fewest.specs.Descent.{written}
 use Rattle.chain_fewest.specs.Best.{Asked, Given}
 use Rattle.chain.specs.Front.{sideFrom, Window}
-use Rattle.chain.specs.Chain.{chainPlaces, labelOf, chainCells, chainNumber, chainBy, chainOf, GivesChain, Answerable}
+use Rattle.chain.specs.Chain.{chainPlaces, labelOf, chainCells, chainNumber, chainByNumber, chainOf, GivesChain, Answerable}
 use Rattle.chain.proofs.Front.{side-links, side-asked}
 
 abbrev pub refusal : ℕ → ChainAnswer
@@ -43,7 +43,7 @@ refusal k = record { newest = 0; cells = 0; hold = 0; number = k }
 module _ (b : Book) (log chain : List ℕ) (one other : ℕ) where
   pub refuses : {k : ℕ} {r : ChainAnswer} {after : List ℕ} → chainNumber b log chain one other ≡ suc k → r ≡ refusal (suc k) → after ≡ chain
       → GivesChain (chainOf b log chain one other) r after
-  unfolding chainOf chainBy
+  unfolding chainOf chainByNumber
   refuses e same kept = rw e (record { answered = same; written = kept })
 
   pub out-of-order : inOrder b ≡ false → chainNumber b log chain one other ≡ 1
@@ -122,12 +122,12 @@ module _ {b : Book} {log chain : List ℕ} {one other : ℕ} (a : Answerable b l
       pub answers : {r : ChainAnswer} {count k : ℕ} {after : List ℕ} → Given (chainCells b log one other) chain count after → count ≤ 1024
           → k ≡ openSlide (b .clock) → r ≡ record { newest = k + j - b .clock .n; cells = count; hold = j - 1; number = 0 }
           → GivesChain (chainOf b log chain one other) r after
-      unfolding chainOf chainBy
+      unfolding chainOf chainByNumber
       answers g h at-open same =
           let short : leb (length (chainCells b log one other)) 1024 ≡ true = le-leb (length (chainCells b log one other)) 1024 (rw (g .count) at h) in
           rw (passed ∙ last-passes 8 short) (record { answered = same ∙ rw (at-open, is, g .count); written = rw short at (g .buffer) })
 
-      chained : Chained (linksFrom j (windowLinks b log)) one other
+      chained : Chained (linksFromLabel j (windowLinks b log)) one other
       chained =
           highest-exactly (windowLinks b log) one other (suc (b .clock .n)) j joined label-few .1 (omega (arith, is))
 
@@ -135,14 +135,14 @@ module _ {b : Book} {log chain : List ℕ} {one other : ℕ} (a : Answerable b l
       pub newest-is : b .clock .n ≤ openSlide (b .clock) + j
       newest-is = go (decLe (b .clock .n) (openSlide (b .clock)))
         where
-          all : linksFrom (b .clock .n - openSlide (b .clock)) (windowLinks b log) ≡ linksFrom 1 (windowLinks b log)
+          all : linksFromLabel (b .clock .n - openSlide (b .clock)) (windowLinks b log) ≡ linksFromLabel 1 (windowLinks b log)
           all = ap (map (λ x. x .link)) (all-at-least _ (each-map (λ x p. omega (arith, p)) (window-oldest b log))) ∙ sym (window-all b log)
 
           go : Dec (b .clock .n ≤ openSlide (b .clock)) → b .clock .n ≤ openSlide (b .clock) + j
           go (yes h) = omega arith
           go (no h) =
               let exactly = highest-exactly (windowLinks b log) one other (suc (b .clock .n)) in
-              let first : Chained (linksFrom 1 (windowLinks b log)) one other = exactly 1 (omega arith) (omega arith) .1 (omega (arith, is)) in
+              let first : Chained (linksFromLabel 1 (windowLinks b log)) one other = exactly 1 (omega arith) (omega arith) .1 (omega (arith, is)) in
               omega (arith, is, exactly (b .clock .n - openSlide (b .clock)) (omega arith) (omega arith) .0 (rw all first))
 
   -- ---- the links as they are gathered

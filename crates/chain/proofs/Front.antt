@@ -12,7 +12,7 @@ use lib.Seq.{drop-cons, drop-length, length-take-le, getD-take, take-take}
 use Rattle.graph.specs.Link.{Chained}
 use Rattle.graph.specs.Forest.{Labelled, atLeast, Each, empty, also, EndsBelow}
 use Rattle.graph.proofs.Cut.{each-map}
-use Rattle.window.specs.Window.{linksFrom}
+use Rattle.window.specs.Window.{linksFromLabel}
 use Rattle.window.specs.Gathered.{onesOf, othersOf, labelsOf}
 use Rattle.window.specs.Falls.{Falls, none, next}
 use Rattle.window.proofs.Falling.{falls-none}
@@ -77,14 +77,14 @@ front-most j (l ∷ ls) = go (decLt l j) (front-most j ls)
     go (no h) on = rw (le-ltb l j (omega arith)) (omega arith)
 
 front-links : {m : ℕ} {xs : List Labelled} → Falls m xs → (j : ℕ)
-    → linksOf (take (frontOf j (labelsOf xs)) (onesOf xs)) (take (frontOf j (labelsOf xs)) (othersOf xs)) ≡ linksFrom j xs
+    → linksOf (take (frontOf j (labelsOf xs)) (onesOf xs)) (take (frontOf j (labelsOf xs)) (othersOf xs)) ≡ linksFromLabel j xs
 unfolding frontOf linksOf atLeast
 front-links none j = refl
 front-links (next {x} {xs} l on) j = go (decLt (x .label) j) (front-links on j)
   where
     go : Dec (x .label < j)
-        → linksOf (take (frontOf j (labelsOf xs)) (onesOf xs)) (take (frontOf j (labelsOf xs)) (othersOf xs)) ≡ linksFrom j xs
-        → linksOf (take (frontOf j (labelsOf (x ∷ xs))) (onesOf (x ∷ xs))) (take (frontOf j (labelsOf (x ∷ xs))) (othersOf (x ∷ xs))) ≡ linksFrom j (x ∷ xs)
+        → linksOf (take (frontOf j (labelsOf xs)) (onesOf xs)) (take (frontOf j (labelsOf xs)) (othersOf xs)) ≡ linksFromLabel j xs
+        → linksOf (take (frontOf j (labelsOf (x ∷ xs))) (onesOf (x ∷ xs))) (take (frontOf j (labelsOf (x ∷ xs))) (othersOf (x ∷ xs))) ≡ linksFromLabel j (x ∷ xs)
     go (yes h) e = rw (lt-ltb (x .label) j h, falls-none on j h)
     go (no h) e = rw (le-ltb (x .label) j (omega arith)) (ap (λ ls. x .link ∷ ls) e)
 
@@ -113,11 +113,11 @@ module _ {m count : ℕ} {xs : List Labelled} {ones others labels : List ℕ}
   side-front f side e =
       rw (fronts .third, ← e) (sym (take-take front count side (omega (arith, front-few, fronts .many))))
 
-  pub side-links : linksOf (sideFrom j labels count ones) (sideFrom j labels count others) ≡ linksFrom j xs
+  pub side-links : linksOf (sideFrom j labels count ones) (sideFrom j labels count others) ≡ linksFromLabel j xs
   side-links = rw (side-front (λ x. x .link .one) ones (fronts .first), side-front (λ x. x .link .other) others (fronts .second)) (front-links falls j)
 
   pub side-asked : {one other : ℕ} {chain : List ℕ} → EndsBelow 1024 xs → length xs ≤ 4096 → one < 1024 → other < 1024 → 1024 ≤ length chain
-      → Chained (linksFrom j xs) one other → Asked (sideFrom j labels count ones) (sideFrom j labels count others) one other chain
+      → Chained (linksFromLabel j xs) one other → Asked (sideFrom j labels count ones) (sideFrom j labels count others) one other chain
   side-asked ends few one-cell other-cell room chained =
       record {
         few = rw (long (λ x. x .link .one) ones (fronts .first)) (le-trans front-few few);

@@ -14,7 +14,7 @@ use Rattle.book_state.specs.declared.Book.{Book}
 use Rattle.book_state.specs.Arrays.{cells}
 use Rattle.book_state.specs.Order.{inOrder}
 use Rattle.book_state.specs.Numbers.{firstOf, unless, has, logPlaces, areCells}
-use Rattle.window.specs.Window.{windowLinks, linksFrom, highest}
+use Rattle.window.specs.Window.{windowLinks, linksFromLabel, highest}
 use Rattle.chain.specs.declared.ChainAnswer.{ChainAnswer}
 
 -- the chain buffer's places, at least
@@ -27,7 +27,7 @@ labelOf b log one other = highest (suc (b .clock .n)) (windowLinks b log) one ot
 
 -- the chain handed back
 abbrev pub chainCells : Book → List ℕ → ℕ → ℕ → List ℕ
-chainCells b log one other = trailOf (linksFrom (labelOf b log one other) (windowLinks b log)) one other
+chainCells b log one other = trailOf (linksFromLabel (labelOf b log one other) (windowLinks b log)) one other
 
 unfoldable pub chainNumber : Book → List ℕ → List ℕ → ℕ → ℕ → ℕ
 chainNumber b log chain one other =
@@ -45,19 +45,19 @@ pub record ChainOutcome : Type 0 where
   pub chain : List ℕ
 
 -- by the number; the chain is written to the front of the buffer, and later places keep what they had
-unfoldable pub chainBy : ℕ → Book → List ℕ → List ℕ → ℕ → ℕ → ChainOutcome
-chainBy zero b log chain one other =
+unfoldable pub chainByNumber : ℕ → Book → List ℕ → List ℕ → ℕ → ℕ → ChainOutcome
+chainByNumber zero b log chain one other =
     let j : ℕ = labelOf b log one other in
     let cs : List ℕ = chainCells b log one other in
     record {
       answer = record { newest = openSlide (b .clock) + j - b .clock .n; cells = length cs; hold = j - 1; number = 0 };
       chain = cs ++ drop (length cs) chain;
     }
-chainBy (suc k) b log chain one other =
+chainByNumber (suc k) b log chain one other =
     record { answer = record { newest = 0; cells = 0; hold = 0; number = suc k }; chain = chain }
 
 unfoldable pub chainOf : Book → List ℕ → List ℕ → ℕ → ℕ → ChainOutcome
-chainOf b log chain one other = chainBy (chainNumber b log chain one other) b log chain one other
+chainOf b log chain one other = chainByNumber (chainNumber b log chain one other) b log chain one other
 
 -- an answer and a chain buffer are those of an outcome
 pub record GivesChain (o : ChainOutcome) (answer : ChainAnswer) (chain : List ℕ) : Type 0 where

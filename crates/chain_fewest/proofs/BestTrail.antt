@@ -13,7 +13,7 @@ use Rattle.graph.proofs.Finder.{trailOf-best}
 use Rattle.buckets.specs.Listed.{Listed}
 use Rattle.chain_fewest.specs.Lists.{linksOf, BothWays}
 use Rattle.chain_fewest.specs.Levels.{Counted, Blank}
-use Rattle.chain_fewest.specs.Descent.{Down, written}
+use Rattle.chain_fewest.specs.Descent.{DescentReady, written}
 use Rattle.chain_fewest.specs.Best.{Asked, Given}
 
 -- so many places of the array for the links
@@ -37,16 +37,16 @@ both-ways a forth back =
     }
 
 module _
-    {ones others chain left : List ℕ} {one other : ℕ}
+    {ones others chain remaining : List ℕ} {one other : ℕ}
     (a : Asked ones others one other chain)
-    (k : Counted (linksOf ones others) other left)
+    (k : Counted (linksOf ones others) other remaining)
   where
     -- the trail is written where it is not too long
     pub may-descend :
         {firstOne nextOne firstOther nextOther : List ℕ} →
         BothWays 1024 ones others firstOne nextOne firstOther nextOther →
-        length left ≡ 1024 →
-        getD left one 0 ≤ 1024 → Down ones others firstOne nextOne firstOther nextOther left one other chain
+        length remaining ≡ 1024 →
+        getD remaining one 0 ≤ 1024 → DescentReady ones others firstOne nextOne firstOther nextOther remaining one other chain
     may-descend lists size fits =
         record {
           few = omega (arith, size);
@@ -61,11 +61,11 @@ module _
     trail = trailOf (linksOf ones others) one other
 
     pub gives-written :
-        getD left one 0 ≤ 1024 →
-        {after : List ℕ} → after ≡ written trail chain → Given trail chain (getD left one 0) after
+        getD remaining one 0 ≤ 1024 →
+        {after : List ℕ} → after ≡ written trail chain → Given trail chain (getD remaining one 0) after
     gives-written fits e =
         record { count = k .counts one; buffer = rw (le-leb (length trail) 1024 (rw (k .counts one) at fits)) e }
 
-    pub gives-unwritten : 1024 < getD left one 0 → Given trail chain (getD left one 0) chain
+    pub gives-unwritten : 1024 < getD remaining one 0 → Given trail chain (getD remaining one 0) chain
     gives-unwritten long =
         record { count = k .counts one; buffer = rw (lt-leb (length trail) 1024 (rw (k .counts one) at long)) }

@@ -19,7 +19,7 @@ use Rattle.graph.specs.Trail.{Trail, arrive, step, trailOf}
 use Rattle.graph.proofs.Chains.{Relinks, linked-sym}
 use Rattle.graph.proofs.Trails.{trail-relink, trail-chained, chained-trail}
 use Rattle.graph.proofs.Finder.{trailOf-best, trailOf-none}
-use Rattle.chain_fewest.specs.Levels.{Counted, unknown, Known, Closed, numberIn, Waits, Waiting, Searching}
+use Rattle.chain_fewest.specs.Levels.{Counted, unknown, Known, Closed, remainingAt, Waits, Waiting, Searching}
 
 last-or-before : {i n : ℕ} → i < n + 1 → (i ≡ n) ⊎ (i < n)
 last-or-before {i} {n} lt = let le : i ≤ n = omega arith in eq-or-lt-of-le le
@@ -28,52 +28,52 @@ last-or-before {i} {n} lt = let le : i ≤ n = omega arith in eq-or-lt-of-le le
 
 -- there is one fewer once such a cell has its number
 pub unknown-set :
-    (left : List ℕ) (d v : ℕ) →
-    d < length left → getD left d 0 ≡ 0 → 1 ≤ v → unknown (set left d v) + 1 ≡ unknown left
+    (remaining : List ℕ) (d v : ℕ) →
+    d < length remaining → getD remaining d 0 ≡ 0 → 1 ≤ v → unknown (set remaining d v) + 1 ≡ unknown remaining
 unfolding unknown
-unknown-set (zero ∷ left) zero (suc v) h e p = omega arith
-unknown-set (zero ∷ left) zero zero h e p = absurd (omega arith)
-unknown-set (suc x ∷ left) zero v h e p = absurd (omega arith)
-unknown-set (zero ∷ left) (suc d) v h e p = omega (arith, unknown-set left d v (le-of-suc-le-suc h) e p)
-unknown-set (suc x ∷ left) (suc d) v h e p = unknown-set left d v (le-of-suc-le-suc h) e p
+unknown-set (zero ∷ remaining) zero (suc v) h e p = omega arith
+unknown-set (zero ∷ remaining) zero zero h e p = absurd (omega arith)
+unknown-set (suc x ∷ remaining) zero v h e p = absurd (omega arith)
+unknown-set (zero ∷ remaining) (suc d) v h e p = omega (arith, unknown-set remaining d v (le-of-suc-le-suc h) e p)
+unknown-set (suc x ∷ remaining) (suc d) v h e p = unknown-set remaining d v (le-of-suc-le-suc h) e p
 
 -- One cell more
 
 module _
-    {ls : List Link} {b : ℕ} {left queue : List ℕ} {head tail d : ℕ}
-    (s : Searching ls b left queue head tail)
+    {ls : List Link} {b : ℕ} {remaining queue : List ℕ} {head tail d : ℕ}
+    (s : Searching ls b remaining queue head tail)
     (some : head < tail)
     (h : Linked (getD queue head 0) d ls)
-    (inside : d < length left)
-    (fresh : getD left d 0 ≡ 0)
+    (inside : d < length remaining)
+    (fresh : getD remaining d 0 ≡ 0)
   where
     -- the number of the cell at head, and the lists afterwards
     abbrev number : ℕ
-    number = numberIn left queue head
+    number = remainingAt remaining queue head
 
     abbrev leftMore : List ℕ
-    leftMore = set left d (number + 1)
+    leftMore = set remaining d (number + 1)
 
     abbrev queueMore : List ℕ
     queueMore = set queue tail d
 
-    at-head : Waits left queue head
+    at-head : Waits remaining queue head
     at-head = s .waits head (le-refl head) some
 
-    room-more : unknown leftMore + 1 ≡ unknown left
-    room-more = unknown-set left d (number + 1) inside fresh (omega arith)
+    room-more : unknown leftMore + 1 ≡ unknown remaining
+    room-more = unknown-set remaining d (number + 1) inside fresh (omega arith)
 
     pub has-room : tail < length queue
     has-room = omega (arith, room-more, s .room, s .long)
 
     pub number-new : getD leftMore d 0 ≡ number + 1
-    number-new = getD-set-same left d (number + 1) 0 inside
+    number-new = getD-set-same remaining d (number + 1) 0 inside
 
-    number-other : {c : ℕ} → (c ≡ d → ⊥) → getD leftMore c 0 ≡ getD left c 0
-    number-other {c} ne = getD-set-other left d c (number + 1) 0 ne
+    number-other : {c : ℕ} → (c ≡ d → ⊥) → getD leftMore c 0 ≡ getD remaining c 0
+    number-other {c} ne = getD-set-other remaining d c (number + 1) 0 ne
 
-    pub number-kept : (c : ℕ) → Known left c → getD leftMore c 0 ≡ getD left c 0
-    number-kept c known = number-other (λ e. omega (arith, ap (λ x. getD left x 0) e))
+    pub number-kept : (c : ℕ) → Known remaining c → getD leftMore c 0 ≡ getD remaining c 0
+    number-kept c known = number-other (λ e. omega (arith, ap (λ x. getD remaining x 0) e))
 
     cell-new : getD queueMore tail 0 ≡ d
     cell-new = getD-set-same queue tail d 0 has-room
@@ -82,7 +82,7 @@ module _
     cell-kept i lt = getD-set-other queue tail i d 0 (λ e. omega arith)
 
     -- the cell is the new one, or it was known
-    known-cases : (c : ℕ) → Known leftMore c → (c ≡ d) ⊎ Known left c
+    known-cases : (c : ℕ) → Known leftMore c → (c ≡ d) ⊎ Known remaining c
     known-cases c known =
         elim (ℕ-discrete c d) [
           | yes e ↦ inl e
@@ -97,7 +97,7 @@ module _
         ]
 
     -- a place of the queue before the new one
-    pub in-queue-kept : (i : ℕ) → head ≤ i → i < tail → numberIn leftMore queueMore i ≡ numberIn left queue i
+    pub in-queue-kept : (i : ℕ) → head ≤ i → i < tail → remainingAt leftMore queueMore i ≡ remainingAt remaining queue i
     in-queue-kept i le lt = rw (cell-kept i lt) (number-kept (getD queue i 0) (s .waits i le lt .known))
 
     trail-more : (c : ℕ) → Known leftMore c → (cs : List ℕ) × Trail ls b c cs × (length cs ≡ getD leftMore c 0)
@@ -108,7 +108,7 @@ module _
             let (cs, t, long) = s .trail (getD queue head 0) (at-head .known) in
             (c ∷ cs, step (linked-sym (rw (← e) at h)) t, rw (e, number-new) (omega (arith, long)))
 
-        old : Known left c → (cs : List ℕ) × Trail ls b c cs × (length cs ≡ getD leftMore c 0)
+        old : Known remaining c → (cs : List ℕ) × Trail ls b c cs × (length cs ≡ getD leftMore c 0)
         old k =
             let (cs, t, long) = s .trail c k in
             (cs, t, long ∙ sym (number-kept c k))
@@ -119,12 +119,12 @@ module _
         new : c ≡ d → Closed ls leftMore c ⊎ Waiting queueMore head (tail + 1) c
         new e = inr (tail, s .passed, omega arith, cell-new ∙ sym e)
 
-        still : Known left c → Closed ls left c → Closed ls leftMore c
+        still : Known remaining c → Closed ls remaining c → Closed ls leftMore c
         still k closed x l =
             let (p, q) = closed x l in
             rw (number-kept x p, number-kept c k) (p, q)
 
-        old : Known left c → Closed ls leftMore c ⊎ Waiting queueMore head (tail + 1) c
+        old : Known remaining c → Closed ls leftMore c ⊎ Waiting queueMore head (tail + 1) c
         old k =
             ⊎-map (still k) (λ w. (w .0, w .1, omega (arith, w .2), cell-kept (w .0) (w .2) ∙ w .3)) (s .closed c k)
 
@@ -148,7 +148,7 @@ module _
 
     rises-more :
         (i j : ℕ) → head ≤ i → i ≤ j → (j ≡ tail) ⊎ (j < tail) →
-        numberIn leftMore queueMore i ≤ numberIn leftMore queueMore j
+        remainingAt leftMore queueMore i ≤ remainingAt leftMore queueMore j
     rises-more i j le more (inl e) = rw (e, cell-new, number-new) (highest (getD queueMore i 0))
     rises-more i j le more (inr lt) =
         rw (in-queue-kept i le (omega arith), in-queue-kept j (omega arith) lt) (s .rises i j le more lt)
@@ -171,11 +171,11 @@ module _
 
 -- once all cells across the links of the cell at head have their numbers
 pub search-on :
-    {ls : List Link} {b : ℕ} {left queue : List ℕ} {head tail : ℕ} →
-    Searching ls b left queue head tail →
+    {ls : List Link} {b : ℕ} {remaining queue : List ℕ} {head tail : ℕ} →
+    Searching ls b remaining queue head tail →
     head < tail →
-    ((d : ℕ) → Linked (getD queue head 0) d ls → Known left d) → Searching ls b left queue (head + 1) tail
-search-on {ls} {b} {left} {queue} {head} {tail} s some all =
+    ((d : ℕ) → Linked (getD queue head 0) d ls → Known remaining d) → Searching ls b remaining queue (head + 1) tail
+search-on {ls} {b} {remaining} {queue} {head} {tail} s some all =
     record {
       long = s .long;
       begins = s .begins;
@@ -190,46 +190,46 @@ search-on {ls} {b} {left} {queue} {head} {tail} s some all =
   where
     passes :
         (c : ℕ) (w : Waiting queue head tail c) → (head ≡ w .0) ⊎ (head < w .0) →
-        Closed ls left c ⊎ Waiting queue (head + 1) tail c
+        Closed ls remaining c ⊎ Waiting queue (head + 1) tail c
     passes c (i, le, lt, e) (inl f) =
         inl (rw (← e, ← f) (λ d h. (all d h, s .waits head (le-refl head) some .top d)))
     passes c (i, le, lt, e) (inr more) = inr (i, omega arith, lt, e)
 
 -- The end of the search
 
-module _ {ls : List Link} {b : ℕ} {left queue : List ℕ} {tail : ℕ} (s : Searching ls b left queue tail tail) where
-  all-closed : (c : ℕ) → Known left c → Closed ls left c
+module _ {ls : List Link} {b : ℕ} {remaining queue : List ℕ} {tail : ℕ} (s : Searching ls b remaining queue tail tail) where
+  all-closed : (c : ℕ) → Known remaining c → Closed ls remaining c
   all-closed c known = ⊎-elim (λ x. x) (λ w. absurd (omega (arith, w .1, w .2))) (s .closed c known)
 
   -- no trail has fewer cells than the number of its first cell says
-  least : {c : ℕ} {cs : List ℕ} → Trail ls b c cs → Known left c × (getD left c 0 ≤ length cs)
+  least : {c : ℕ} {cs : List ℕ} → Trail ls b c cs → Known remaining c × (getD remaining c 0 ≤ length cs)
   least (arrive e) = rw (e, s .last) (le-refl 1, le-refl 1)
   least (step {c = d} h t) =
       let (known, few) = least t in
       let (p, q) = all-closed d known _ (linked-sym h) in
       (p, omega arith)
 
-  unreached : (c : ℕ) → getD left c 0 ≡ 0 → length (trailOf ls c b) ≡ 0
+  unreached : (c : ℕ) → getD remaining c 0 ≡ 0 → length (trailOf ls c b) ≡ 0
   unreached c e = ap length (trailOf-none ls c b (λ x. omega (arith, least (chained-trail x .1) .0)))
 
-  reached : (c : ℕ) → Known left c → getD left c 0 ≡ length (trailOf ls c b)
+  reached : (c : ℕ) → Known remaining c → getD remaining c 0 ≡ length (trailOf ls c b)
   reached c known =
       let (cs, t, long) = s .trail c known in
       let p = trailOf-best (trail-chained t) in
       le-antisymm (least (p .trail) .1) (rw long at (p .fewest cs t))
 
   -- so each number is that of the best trail
-  pub search-ends : Counted ls b left
+  pub search-ends : Counted ls b remaining
   search-ends = record { counts = number }
     where
-      number : (c : ℕ) → getD left c 0 ≡ length (trailOf ls c b)
+      number : (c : ℕ) → getD remaining c 0 ≡ length (trailOf ls c b)
       number c =
-          ⊎-elim (λ e. sym e ∙ sym (unreached c (sym e))) (reached c) (eq-or-lt-of-le (zero-le {n = getD left c 0}))
+          ⊎-elim (λ e. sym e ∙ sym (unreached c (sym e))) (reached c) (eq-or-lt-of-le (zero-le {n = getD remaining c 0}))
 
 -- which links there are counts, and not how they are written
 pub search-relink :
-    {ls ms : List Link} {b : ℕ} {left queue : List ℕ} {head tail : ℕ} →
-    Relinks ls ms → Relinks ms ls → Searching ls b left queue head tail → Searching ms b left queue head tail
+    {ls ms : List Link} {b : ℕ} {remaining queue : List ℕ} {head tail : ℕ} →
+    Relinks ls ms → Relinks ms ls → Searching ls b remaining queue head tail → Searching ms b remaining queue head tail
 search-relink f g s =
     record {
       long = s .long;

@@ -10,30 +10,30 @@ use Rattle.chain_fewest.specs.Lists.{linksOf, Leads, BothWays}
 use Rattle.chain_fewest.specs.Levels.{Counted, Known}
 
 -- the smaller of `best` and the smallest cell across a link of the cell, read from one side, with the number
-pub record Smaller (from to left : List ℕ) (cell number best r : ℕ) : Type 0 where
+pub record Smaller (from to remaining : List ℕ) (cell number best r : ℕ) : Type 0 where
   pub low : r ≤ best
-  pub is : (r ≡ best) ⊎ (Leads from to cell r × (getD left r 0 ≡ number))
-  pub least : (d : ℕ) → Leads from to cell d → getD left d 0 ≡ number → r ≤ d
+  pub is : (r ≡ best) ⊎ (Leads from to cell r × (getD remaining r 0 ≡ number))
+  pub least : (d : ℕ) → Leads from to cell d → getD remaining d 0 ≡ number → r ≤ d
 
 -- d stands across a link of c, and one cell fewer leads on from it
-pub record Nearer (ls : List Link) (left : List ℕ) (c d : ℕ) : Type 0 where
+pub record Nearer (ls : List Link) (remaining : List ℕ) (c d : ℕ) : Type 0 where
   pub linked : Linked c d ls
-  pub fewer : getD left d 0 + 1 ≡ getD left c 0
+  pub fewer : getD remaining d 0 + 1 ≡ getD remaining c 0
 
 -- the smallest such cell
-pub record NextCell (ls : List Link) (left : List ℕ) (c d : ℕ) : Type 0 where
-  pub nearer : Nearer ls left c d
-  pub least : (x : ℕ) → Nearer ls left c x → d ≤ x
+pub record NextCell (ls : List Link) (remaining : List ℕ) (c d : ℕ) : Type 0 where
+  pub nearer : Nearer ls remaining c d
+  pub least : (x : ℕ) → Nearer ls remaining c x → d ≤ x
 
 -- the numbers are those of the best trails to the second cell, the first cell's is known, and the chain has room for its trail
-pub record Down
-    (ones others firstOne nextOne firstOther nextOther left : List ℕ) (one other : ℕ) (chain : List ℕ) : Type 0
+pub record DescentReady
+    (ones others firstOne nextOne firstOther nextOther remaining : List ℕ) (one other : ℕ) (chain : List ℕ) : Type 0
   where
-    pub few : length left < 65536
-    pub lists : BothWays (length left) ones others firstOne nextOne firstOther nextOther
-    pub counted : Counted (linksOf ones others) other left
-    pub known : Known left one
-    pub room : getD left one 0 ≤ length chain
+    pub few : length remaining < 65536
+    pub lists : BothWays (length remaining) ones others firstOne nextOne firstOther nextOther
+    pub counted : Counted (linksOf ones others) other remaining
+    pub known : Known remaining one
+    pub room : getD remaining one 0 ≤ length chain
 
 -- a chain written to the front of a buffer; later places keep what they had
 abbrev pub written : List ℕ → List ℕ → List ℕ

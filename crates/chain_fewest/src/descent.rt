@@ -1,12 +1,12 @@
 // The best trail, from the first cell down: always on to the smallest cell across a link from which one cell fewer leads
 // on. Each cell's links are walked once, so the time is linear in cells and links.
-use buckets::number_at;
+use buckets::entry_at;
 ghost use mathlib.Core.Path.{_≡_};
 ghost use Prim.Native.Nat.{ℕ, _<_, min};
 ghost use lib.ListN.{length};
 ghost use Rattle.graph.specs.Trail.{trailOf};
 ghost use Rattle.chain_fewest.specs.Lists.{linksOf, OneWay, BothWays};
-ghost use Rattle.chain_fewest.specs.Descent.{Smaller, Nearer, NextCell, Down, written};
+ghost use Rattle.chain_fewest.specs.Descent.{Smaller, Nearer, NextCell, DescentReady, written};
 
 fn smaller(one: usize, other: usize) -> usize
     ensures { λ r. ⌜ r ≡ min one other ⌝ }
@@ -20,23 +20,23 @@ fn smallest_across(
     to: &[u16],
     first: &[u16],
     next: &[u16],
-    left: &[u16],
+    remaining: &[u16],
     cell: usize,
     number: usize,
     best: usize,
 ) -> usize
-    requires lists { ⌜ OneWay (length (now left)) (now from) (now to) (now first) (now next) ⌝ }
-    requires inside { ⌜ cell < length (now left) ⌝ }
-    ensures { λ r. ⌜ Smaller (now (from .entry)) (now (to .entry)) (now (left .entry)) cell number best r ⌝ }
+    requires lists { ⌜ OneWay (length (now remaining)) (now from) (now to) (now first) (now next) ⌝ }
+    requires inside { ⌜ cell < length (now remaining) ⌝ }
+    ensures { λ r. ⌜ Smaller (now (from .entry)) (now (to .entry)) (now (remaining .entry)) cell number best r ⌝ }
 {
     let mut found = best;
-    let mut link = number_at(first, cell);
+    let mut link = entry_at(first, cell);
     while link < from.len() {
-        let across = number_at(to, link);
-        if number_at(left, across) == number {
+        let across = entry_at(to, link);
+        if entry_at(remaining, across) == number {
             found = smaller(found, across);
         }
-        link = number_at(next, link);
+        link = entry_at(next, link);
     }
     found
 }
@@ -49,32 +49,32 @@ fn next_cell(
     next_one: &[u16],
     first_other: &[u16],
     next_other: &[u16],
-    left: &[u16],
+    remaining: &[u16],
     cell: usize,
 ) -> usize
-    requires lists { ⌜ BothWays (length (now left)) (now ones) (now others) (now «first_one») (now «next_one»)
+    requires lists { ⌜ BothWays (length (now remaining)) (now ones) (now others) (now «first_one») (now «next_one»)
         (now «first_other») (now «next_other») ⌝ }
-    requires inside { ⌜ cell < length (now left) ⌝ }
-    requires nearer { ⌜ ((d : ℕ) × Nearer (linksOf (now ones) (now others)) (now left) cell d) ⌝ }
-    ensures { λ r. ⌜ NextCell (linksOf (now (ones .entry)) (now (others .entry))) (now (left .entry)) cell r ⌝ }
+    requires inside { ⌜ cell < length (now remaining) ⌝ }
+    requires nearer { ⌜ ((d : ℕ) × Nearer (linksOf (now ones) (now others)) (now remaining) cell d) ⌝ }
+    ensures { λ r. ⌜ NextCell (linksOf (now (ones .entry)) (now (others .entry))) (now (remaining .entry)) cell r ⌝ }
 {
-    let number = number_at(left, cell) - 1;
+    let number = entry_at(remaining, cell) - 1;
     let found = smallest_across(
         ones,
         others,
         first_one,
         next_one,
-        left,
+        remaining,
         cell,
         number,
-        left.len(),
+        remaining.len(),
     );
     smallest_across(
         others,
         ones,
         first_other,
         next_other,
-        left,
+        remaining,
         cell,
         number,
         found,
@@ -89,13 +89,13 @@ pub fn descend(
     next_one: &[u16],
     first_other: &[u16],
     next_other: &[u16],
-    left: &[u16],
+    remaining: &[u16],
     one: usize,
     other: usize,
     chain: &mut [u16],
 )
-    requires { ⌜ Down (now ones) (now others) (now «first_one») (now «next_one») (now «first_other») (now «next_other»)
-        (now left) one other (now chain) ⌝ }
+    requires { ⌜ DescentReady (now ones) (now others) (now «first_one») (now «next_one») (now «first_other») (now «next_other»)
+        (now remaining) one other (now chain) ⌝ }
     ensures { λ _.
         ⌜ now (chain .exit) ≡ written (trailOf (linksOf (now (ones .entry)) (now (others .entry))) one other)
         (now (chain .entry)) ⌝ }
@@ -112,7 +112,7 @@ pub fn descend(
             next_one,
             first_other,
             next_other,
-            left,
+            remaining,
             cell,
         );
     }

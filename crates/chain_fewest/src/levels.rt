@@ -1,6 +1,6 @@
 // How many cells the best trail from each cell to the second cell has: found from the second cell on, level by level, in
 // time linear in cells and links, since each cell enters the queue once and its links are walked once.
-use buckets::number_at;
+use buckets::entry_at;
 ghost use mathlib.Core.Path.{_≡_};
 ghost use Prim.Native.Nat.{_<_};
 ghost use lib.ListN.{length};
@@ -15,27 +15,27 @@ fn reach(
     first: &[u16],
     next: &[u16],
     head: usize,
-    left: &mut [u16],
+    remaining: &mut [u16],
     queue: &mut [u16],
     tail: usize,
 ) -> usize
-    requires { ⌜ Ready (now from) (now to) (now first) (now next) head (now left) (now queue) tail ⌝ }
+    requires { ⌜ Ready (now from) (now to) (now first) (now next) head (now remaining) (now queue) tail ⌝ }
     ensures { λ r.
-        ⌜ Reached (now (from .entry)) (now (to .entry)) head (now (left .entry)) (now (queue .entry)) (now (left .exit))
+        ⌜ Reached (now (from .entry)) (now (to .entry)) head (now (remaining .entry)) (now (queue .entry)) (now (remaining .exit))
         (now (queue .exit)) r ⌝ }
 {
-    let cell = number_at(queue, head);
-    let number = left[cell] + 1;
+    let cell = entry_at(queue, head);
+    let number = remaining[cell] + 1;
     let mut end = tail;
-    let mut link = number_at(first, cell);
+    let mut link = entry_at(first, cell);
     while link < from.len() {
-        let across = number_at(to, link);
-        if left[across] == 0 {
-            left[across] = number;
+        let across = entry_at(to, link);
+        if remaining[across] == 0 {
+            remaining[across] = number;
             queue[end] = across as u16;
             end += 1;
         }
-        link = number_at(next, link);
+        link = entry_at(next, link);
     }
     end
 }
@@ -49,18 +49,18 @@ pub fn count_cells(
     first_other: &[u16],
     next_other: &[u16],
     other: u16,
-    left: &mut [u16],
+    remaining: &mut [u16],
 )
     requires inside { ⌜ other < 1024 ⌝ }
-    requires size { ⌜ length (now left) ≡ 1024 ⌝ }
-    requires blank { ⌜ Blank (now left) ⌝ }
+    requires size { ⌜ length (now remaining) ≡ 1024 ⌝ }
+    requires blank { ⌜ Blank (now remaining) ⌝ }
     requires lists { ⌜ BothWays 1024 (now ones) (now others) (now «first_one») (now «next_one») (now «first_other»)
         (now «next_other») ⌝ }
-    ensures { λ _. ⌜ Counted (linksOf (now (ones .entry)) (now (others .entry))) other (now (left .exit)) ⌝ }
+    ensures { λ _. ⌜ Counted (linksOf (now (ones .entry)) (now (others .entry))) other (now (remaining .exit)) ⌝ }
 {
     let mut queue = [0u16; 1024];
     queue[0] = other;
-    left[other as usize] = 1;
+    remaining[other as usize] = 1;
     let mut head = 0;
     let mut tail = 1;
     while head < tail {
@@ -70,7 +70,7 @@ pub fn count_cells(
             first_one,
             next_one,
             head,
-            left,
+            remaining,
             &mut queue,
             tail,
         );
@@ -80,7 +80,7 @@ pub fn count_cells(
             first_other,
             next_other,
             head,
-            left,
+            remaining,
             &mut queue,
             tail,
         );

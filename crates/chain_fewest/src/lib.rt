@@ -62,7 +62,7 @@ fn trail_over(
         ⌜ Given (trailOf (linksOf (now (ones .entry)) (now (others .entry))) one other) (now (chain .entry)) r
         (now (chain .exit)) ⌝ }
 {
-    let mut left = [0u16; 1024];
+    let mut remaining = [0u16; 1024];
     count_cells(
         ones,
         others,
@@ -71,9 +71,9 @@ fn trail_over(
         first_other,
         next_other,
         other,
-        &mut left,
+        &mut remaining,
     );
-    let cells = left[one as usize];
+    let cells = remaining[one as usize];
     if 1024 < cells {
         return cells;
     }
@@ -84,7 +84,7 @@ fn trail_over(
         next_one,
         first_other,
         next_other,
-        &left,
+        &remaining,
         one as usize,
         other as usize,
         chain,

@@ -12,15 +12,15 @@ use Rattle.forest.specs.Arrays.{walked}
 
 module _ (up : ℕ → ℕ) where
   -- a cell that stays ends a walk
-  pub climb-stays : (most c : ℕ) → up c ≡ c → climb up most c ≡ record { root = c; steps = 0 }
+  pub climb-stays : (limit c : ℕ) → up c ≡ c → climb up limit c ≡ record { root = c; steps = 0 }
   unfolding climb
   climb-stays zero c e = refl
-  climb-stays (suc most) c e = simp (eq-eqb _ _ e)
+  climb-stays (suc limit) c e = simp (eq-eqb _ _ e)
 
   -- any other is one step before the walk from its parent
-  pub climb-goes : (most c : ℕ) → (up c ≡ c → ⊥) → climb up (suc most) c ≡ onward (climb up most (up c))
+  pub climb-goes : (limit c : ℕ) → (up c ≡ c → ⊥) → climb up (suc limit) c ≡ onward (climb up limit (up c))
   unfolding climb
-  climb-goes most c n = simp (ne-eqb _ _ n)
+  climb-goes limit c n = simp (ne-eqb _ _ n)
 
   -- no steps are left
   pub climb-none : (c : ℕ) → climb up 0 c ≡ record { root = c; steps = 0 }
@@ -32,35 +32,35 @@ abbrev pub ahead : ℕ → graph.Walk → Walk
 ahead k w = record { root = w .root; steps = k + w .steps }
 
 -- the loop stands at `at` after so many steps
-pub record Reached (up : ℕ → ℕ) (most cell at steps : ℕ) : Type 0 where
-  pub within : steps ≤ most
-  pub rest : walked (climb up most cell) ≡ ahead steps (climb up (most - steps) at)
+pub record Reached (up : ℕ → ℕ) (limit cell at steps : ℕ) : Type 0 where
+  pub within : steps ≤ limit
+  pub rest : walked (climb up limit cell) ≡ ahead steps (climb up (limit - steps) at)
 
-module _ (up : ℕ → ℕ) (most cell : ℕ) where
-  pub begins : Reached up most cell cell 0
+module _ (up : ℕ → ℕ) (limit cell : ℕ) where
+  pub begins : Reached up limit cell cell 0
   begins = record { within = omega arith; rest = simp (sub-zero, zero-add) }
 
   -- the walk is over, at a root or with the last step
-  over : {at steps : ℕ} → Reached up most cell at steps → climb up (most - steps) at ≡ record { root = at; steps = 0 }
-      → record { root = at; steps = steps } ≡ walked (climb up most cell)
+  over : {at steps : ℕ} → Reached up limit cell at steps → climb up (limit - steps) at ≡ record { root = at; steps = 0 }
+      → record { root = at; steps = steps } ≡ walked (climb up limit cell)
   over r e = sym (r .rest ∙ rw (e, add-zero))
 
-  pub stays : {at next steps : ℕ} → Reached up most cell at steps → next ≡ up at → next ≡ at
-      → record { root = at; steps = steps } ≡ walked (climb up most cell)
+  pub stays : {at next steps : ℕ} → Reached up limit cell at steps → next ≡ up at → next ≡ at
+      → record { root = at; steps = steps } ≡ walked (climb up limit cell)
   stays r e s = over r (climb-stays up _ _ (sym e ∙ s))
 
-  pub ended : {at steps : ℕ} → Reached up most cell at steps → most ≤ steps
-      → record { root = at; steps = steps } ≡ walked (climb up most cell)
-  ended {at} {steps} r h = over r (rw (let z : most - steps ≡ 0 = omega arith in z) (climb-none up at))
+  pub ended : {at steps : ℕ} → Reached up limit cell at steps → limit ≤ steps
+      → record { root = at; steps = steps } ≡ walked (climb up limit cell)
+  ended {at} {steps} r h = over r (rw (let z : limit - steps ≡ 0 = omega arith in z) (climb-none up at))
 
-  pub goes : {at next steps : ℕ} → Reached up most cell at steps → next ≡ up at → (next ≡ at → ⊥) → steps < most
-      → Reached up most cell next (steps + 1)
+  pub goes : {at next steps : ℕ} → Reached up limit cell at steps → next ≡ up at → (next ≡ at → ⊥) → steps < limit
+      → Reached up limit cell next (steps + 1)
   goes {at} {next} {steps} r e n h = record { within = omega arith; rest = r .rest ∙ ap (ahead steps) one ∙ ap tail (omega arith) }
     where
       left : ℕ
-      left = most - (steps + 1)
+      left = limit - (steps + 1)
 
-      one : climb up (most - steps) at ≡ onward (climb up left next)
+      one : climb up (limit - steps) at ≡ onward (climb up left next)
       one =
           ap (λ k. climb up k at) (omega arith) ∙ climb-goes up left at (λ s. n (e ∙ s))
           ∙ ap (λ x. onward (climb up left x)) (sym e)

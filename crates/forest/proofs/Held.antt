@@ -33,28 +33,28 @@ held-fresh n =
     }
 
 -- ---- walks
-module _ (ps ss ls : List ℕ) (most : ℕ) where
-  pub held-walk : (c : ℕ) → walkOf ps most c ≡ walked (walk most (held ps ss ls) c)
+module _ (ps ss ls : List ℕ) (limit : ℕ) where
+  pub held-walk : (c : ℕ) → walkOf ps limit c ≡ walked (walk limit (held ps ss ls) c)
   unfolding walk
   held-walk c = refl
 
-  pub held-walkAt : (cut c : ℕ) → walkAtOf ps ls most cut c ≡ walked (walkAt most (held ps ss ls) cut c)
+  pub held-walkAt : (cut c : ℕ) → walkAtOf ps ls limit cut c ≡ walked (walkAt limit (held ps ss ls) cut c)
   unfolding walkAt
   held-walkAt cut c = refl
 
 -- entry c of the roots is the root of c
-pub roots-entry : (ps : List ℕ) (most n c d : ℕ) → c < n → getD (rootsOf ps most n) c d ≡ walkOf ps most c .root
-roots-entry ps most n = getD-each (λ c. climb (parentIn ps) most c .root) n
+pub roots-entry : (ps : List ℕ) (limit n c d : ℕ) → c < n → getD (rootsOf ps limit n) c d ≡ walkOf ps limit c .root
+roots-entry ps limit n = getD-each (λ c. climb (parentIn ps) limit c .root) n
 
-pub rootsAt-entry : (ps ls : List ℕ) (most cut n c d : ℕ) → c < n → getD (rootsAtOf ps ls most cut n) c d ≡ walkAtOf ps ls most cut c .root
-rootsAt-entry ps ls most cut n = getD-each (λ c. climb (parentAtIn ps ls cut) most c .root) n
+pub rootsAt-entry : (ps ls : List ℕ) (limit cut n c d : ℕ) → c < n → getD (rootsAtOf ps ls limit cut n) c d ≡ walkAtOf ps ls limit cut c .root
+rootsAt-entry ps ls limit cut n = getD-each (λ c. climb (parentAtIn ps ls cut) limit c .root) n
 
 -- a walk stays among the cells
 cond-root : {n : ℕ} (t : Bool) (v w : graph.Walk) → v .root < n → w .root < n → cond t v w .root < n
 cond-root true v w h k = h
 cond-root false v w h k = k
 
-pub root-below : (up : ℕ → ℕ) (n : ℕ) → ((c : ℕ) → c < n → up c < n) → (most c : ℕ) → c < n → climb up most c .root < n
+pub root-below : (up : ℕ → ℕ) (n : ℕ) → ((c : ℕ) → c < n → up c < n) → (limit c : ℕ) → c < n → climb up limit c .root < n
 unfolding climb
 root-below up n inside zero c h = h
-root-below up n inside (suc most) c h = cond-root (eqb (up c) c) _ _ h (root-below up n inside most (up c) (inside c h))
+root-below up n inside (suc limit) c h = cond-root (eqb (up c) c) _ _ h (root-below up n inside limit (up c) (inside c h))

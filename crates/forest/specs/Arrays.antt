@@ -48,7 +48,7 @@ walked w = record { root = w .root; steps = w .steps }
 
 -- a walk without a cut
 abbrev pub walkOf : List ℕ → ℕ → ℕ → Walk
-walkOf ps most c = walked (climb (parentIn ps) most c)
+walkOf ps limit c = walked (climb (parentIn ps) limit c)
 
 -- the parent at a cut: a step whose label is below the cut is not taken
 abbrev pub parentAtIn : List ℕ → List ℕ → ℕ → ℕ → ℕ
@@ -56,11 +56,11 @@ parentAtIn ps ls cut c = cond (ltb (labelIn ls c) cut) c (parentIn ps c)
 
 -- a walk at a cut
 abbrev pub walkAtOf : List ℕ → List ℕ → ℕ → ℕ → ℕ → Walk
-walkAtOf ps ls most cut c = walked (climb (parentAtIn ps ls cut) most c)
+walkAtOf ps ls limit cut c = walked (climb (parentAtIn ps ls cut) limit c)
 
 -- the roots of the cells 0 to n - 1, without a cut and at a cut
 abbrev pub rootsOf : List ℕ → ℕ → ℕ → List ℕ
-rootsOf ps most n = map (λ c. climb (parentIn ps) most c .root) (freshParents n)
+rootsOf ps limit n = map (λ c. climb (parentIn ps) limit c .root) (freshParents n)
 
 abbrev pub rootsAtOf : List ℕ → List ℕ → ℕ → ℕ → ℕ → List ℕ
-rootsAtOf ps ls most cut n = map (λ c. climb (parentAtIn ps ls cut) most c .root) (freshParents n)
+rootsAtOf ps ls limit cut n = map (λ c. climb (parentAtIn ps ls cut) limit c .root) (freshParents n)

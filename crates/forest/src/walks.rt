@@ -22,12 +22,12 @@ fn up_at<'a>(parent: &'a [u16], label: &'a [u8], cut: u8, cell: u16) -> u16
 }
 
 // A walk without a cut.
-pub fn walk(parent: &[u16], most: u8, cell: u16) -> Walk
-    ensures { λ r. ⌜ r ≡ walkOf (now (parent .entry)) most cell ⌝ }
+pub fn walk(parent: &[u16], limit: u8, cell: u16) -> Walk
+    ensures { λ r. ⌜ r ≡ walkOf (now (parent .entry)) limit cell ⌝ }
 {
     let mut at = cell;
     let mut steps: u8 = 0;
-    while steps < most {
+    while steps < limit {
         let next = up(parent, at);
         if next == at {
             return Walk { root: at, steps };
@@ -39,12 +39,12 @@ pub fn walk(parent: &[u16], most: u8, cell: u16) -> Walk
 }
 
 // A walk at a cut.
-pub fn walk_at<'a>(parent: &'a [u16], label: &'a [u8], most: u8, cut: u8, cell: u16) -> Walk
-    ensures { λ r. ⌜ r ≡ walkAtOf (now (parent .entry)) (now (label .entry)) most cut cell ⌝ }
+pub fn walk_at<'a>(parent: &'a [u16], label: &'a [u8], limit: u8, cut: u8, cell: u16) -> Walk
+    ensures { λ r. ⌜ r ≡ walkAtOf (now (parent .entry)) (now (label .entry)) limit cut cell ⌝ }
 {
     let mut at = cell;
     let mut steps: u8 = 0;
-    while steps < most {
+    while steps < limit {
         let next = up_at(parent, label, cut, at);
         if next == at {
             return Walk { root: at, steps };
@@ -56,12 +56,12 @@ pub fn walk_at<'a>(parent: &'a [u16], label: &'a [u8], most: u8, cut: u8, cell: 
 }
 
 // The root alone, for those who count no steps: a number comes back in a register, where a walk goes through memory.
-pub fn root(parent: &[u16], most: u8, cell: u16) -> u16
-    ensures { λ r. ⌜ r ≡ walkOf (now (parent .entry)) most cell .root ⌝ }
+pub fn root(parent: &[u16], limit: u8, cell: u16) -> u16
+    ensures { λ r. ⌜ r ≡ walkOf (now (parent .entry)) limit cell .root ⌝ }
 {
     let mut at = cell;
     let mut steps: u8 = 0;
-    while steps < most {
+    while steps < limit {
         let above = up(parent, at);
         if above == at {
             return at;
@@ -73,12 +73,12 @@ pub fn root(parent: &[u16], most: u8, cell: u16) -> u16
 }
 
 // The root alone, at a cut.
-fn root_at<'a>(parent: &'a [u16], label: &'a [u8], most: u8, cut: u8, cell: u16) -> u16
-    ensures { λ r. ⌜ r ≡ walkAtOf (now (parent .entry)) (now (label .entry)) most cut cell .root ⌝ }
+fn root_at<'a>(parent: &'a [u16], label: &'a [u8], limit: u8, cut: u8, cell: u16) -> u16
+    ensures { λ r. ⌜ r ≡ walkAtOf (now (parent .entry)) (now (label .entry)) limit cut cell .root ⌝ }
 {
     let mut at = cell;
     let mut steps: u8 = 0;
-    while steps < most {
+    while steps < limit {
         let above = up_at(parent, label, cut, at);
         if above == at {
             return at;
@@ -90,26 +90,26 @@ fn root_at<'a>(parent: &'a [u16], label: &'a [u8], most: u8, cut: u8, cell: u16)
 }
 
 // The root of each cell.
-pub fn roots(parent: &[u16], most: u8) -> [u16; 1024]
-    ensures { λ r. ⌜ r ≡ rootsOf (now (parent .entry)) most 1024 ⌝ }
+pub fn roots(parent: &[u16], limit: u8) -> [u16; 1024]
+    ensures { λ r. ⌜ r ≡ rootsOf (now (parent .entry)) limit 1024 ⌝ }
 {
     let mut found = [0u16; 1024];
     let mut cell: u16 = 0;
     while cell < 1024 {
-        found[cell as usize] = root(parent, most, cell);
+        found[cell as usize] = root(parent, limit, cell);
         cell += 1;
     }
     found
 }
 
 // The root of each cell at a cut.
-pub fn roots_at<'a>(parent: &'a [u16], label: &'a [u8], most: u8, cut: u8) -> [u16; 1024]
-    ensures { λ r. ⌜ r ≡ rootsAtOf (now (parent .entry)) (now (label .entry)) most cut 1024 ⌝ }
+pub fn roots_at<'a>(parent: &'a [u16], label: &'a [u8], limit: u8, cut: u8) -> [u16; 1024]
+    ensures { λ r. ⌜ r ≡ rootsAtOf (now (parent .entry)) (now (label .entry)) limit cut 1024 ⌝ }
 {
     let mut found = [0u16; 1024];
     let mut cell: u16 = 0;
     while cell < 1024 {
-        found[cell as usize] = root_at(parent, label, most, cut, cell);
+        found[cell as usize] = root_at(parent, label, limit, cut, cell);
         cell += 1;
     }
     found

@@ -32,6 +32,6 @@ endsFrom-ends ps m c h = unless (eqb (getD ps c 0) c) refl
     unless false e = refl
 
 -- where the walk's root is known, so is whether it ends
-pub ends-there : (up : ℕ → ℕ) (most cell : ℕ) {at steps : ℕ} → record { root = at; steps = steps } ≡ walked (climb up most cell)
-    → eqb (up at) at ≡ ends up most cell
-ends-there up most cell e = ap (λ w. eqb (up (w .root)) (w .root)) e
+pub ends-there : (up : ℕ → ℕ) (limit cell : ℕ) {at steps : ℕ} → record { root = at; steps = steps } ≡ walked (climb up limit cell)
+    → eqb (up at) at ≡ ends up limit cell
+ends-there up limit cell e = ap (λ w. eqb (up (w .root)) (w .root)) e

@@ -32,25 +32,25 @@ ranged ps ss long parents sizes =
         rw (getD-within ss c 1 0 h′) (every-each _ ss sizes c h′)
 
 -- a forest that number 1 lets pass is in its ranges, and its walks end
-module _ (ps ss : List ℕ) (most : ℕ) where
-  tests : soundOf ps ss most ≡ true
-      → (length ss ≡ length ps) × (every (within 0 (length ps)) 0 ps ≡ true) × (every (within 1 (length ps + 1)) 0 ss ≡ true) × (every (endsFrom ps most) 0 ps ≡ true)
+module _ (ps ss : List ℕ) (limit : ℕ) where
+  tests : soundOf ps ss limit ≡ true
+      → (length ss ≡ length ps) × (every (within 0 (length ps)) 0 ps ≡ true) × (every (within 1 (length ps + 1)) 0 ss ≡ true) × (every (endsFrom ps limit) 0 ps ≡ true)
   tests e =
-      let three = and-eq-true-iff _ (every (endsFrom ps most) 0 ps) .0 e in
+      let three = and-eq-true-iff _ (every (endsFrom ps limit) 0 ps) .0 e in
       let two = and-eq-true-iff _ (every (within 1 (length ps + 1)) 0 ss) .0 (three .0) in
       let one = and-eq-true-iff (eqb (length ss) (length ps)) _ .0 (two .0) in
       (eqb-true _ _ (one .0), one .1, two .1, three .1)
 
-  pub sound-ranged : soundOf ps ss most ≡ true → Ranged (length ps) ps ss
+  pub sound-ranged : soundOf ps ss limit ≡ true → Ranged (length ps) ps ss
   sound-ranged e =
       let t = tests e in
       ranged ps ss (t .0) (t .1) (t .2)
 
-  pub sound-ends : soundOf ps ss most ≡ true → (c : ℕ) → c < length ps → ends (parentIn ps) most c ≡ true
-  sound-ends e c h = sym (endsFrom-ends ps most c h) ∙ every-each (endsFrom ps most) ps (tests e .3) c h
+  pub sound-ends : soundOf ps ss limit ≡ true → (c : ℕ) → c < length ps → ends (parentIn ps) limit c ≡ true
+  sound-ends e c h = sym (endsFrom-ends ps limit c h) ∙ every-each (endsFrom ps limit) ps (tests e .3) c h
 
   -- and the other way round
-  pub ranged-sound : Ranged (length ps) ps ss → ((c : ℕ) → c < length ps → ends (parentIn ps) most c ≡ true) → soundOf ps ss most ≡ true
+  pub ranged-sound : Ranged (length ps) ps ss → ((c : ℕ) → c < length ps → ends (parentIn ps) limit c ≡ true) → soundOf ps ss limit ≡ true
   ranged-sound r g =
       simp (
         eq-eqb _ _ (r .sizes-long),
@@ -61,5 +61,5 @@ module _ (ps ss : List ℕ) (most : ℕ) where
             let h′ : c < length ps = rw (r .sizes-long) at h in
             rw (getD-within ss c 0 1 h)
             (within-both 1 (length ps + 1) c (sizeIn ss c) (r .size-from c h′) (omega (arith, r .size-to c h′)))),
-        each-every (endsFrom ps most) ps (λ c h. endsFrom-ends ps most c h ∙ g c h),
+        each-every (endsFrom ps limit) ps (λ c h. endsFrom-ends ps limit c h ∙ g c h),
       )

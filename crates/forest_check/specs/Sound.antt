@@ -20,22 +20,22 @@ within low end c x = leb low x && ltb x end
 
 -- a walk without a cut does not exceed `most` steps: after these it stands at a cell that is its own parent
 abbrev pub ends : (ℕ → ℕ) → ℕ → ℕ → Bool
-ends up most c =
-    let r : ℕ = climb up most c .root in
+ends up limit c =
+    let r : ℕ = climb up limit c .root in
     eqb (up r) r
 
 -- the same of cell c with the parent p; a root needs no walk
 abbrev pub endsFrom : List ℕ → ℕ → ℕ → ℕ → Bool
-endsFrom ps most c p =
-    let walks : Bool = ends (parentIn ps) most c in
+endsFrom ps limit c p =
+    let walks : Bool = ends (parentIn ps) limit c in
     eqb p c || walks
 
 -- number 1 of one forest: as many sizes as parents; each parent a cell; each size from 1 to the number of cells; and no
 -- cell's walk exceeds `most` steps
 abbrev pub soundOf : List ℕ → List ℕ → ℕ → Bool
-soundOf ps ss most =
+soundOf ps ss limit =
     let cells : ℕ = length ps in
-    eqb (length ss) cells && every (within 0 cells) 0 ps && every (within 1 (cells + 1)) 0 ss && every (endsFrom ps most) 0 ps
+    eqb (length ss) cells && every (within 0 cells) 0 ps && every (within 1 (cells + 1)) 0 ss && every (endsFrom ps limit) 0 ps
 
 -- each label is at most the bound
 abbrev pub labelsWithin : List ℕ → ℕ → Bool

@@ -12,8 +12,8 @@ ghost use Rattle.forest.specs.Arrays.{parentIn};
 ghost use Rattle.forest_check.specs.Sound.{every, within, ends, endsFrom, Comparable, Above, doublesAt, soundOf, labelsWithin};
 
 // Whether the arrays are a forest's, with no walk over `most` steps.
-pub fn sound<'a>(parent: &'a [u16], size: &'a [u16], most: u8) -> bool
-    ensures { λ r. ⌜ r ≡ soundOf (now (parent .entry)) (now (size .entry)) most ⌝ }
+pub fn sound<'a>(parent: &'a [u16], size: &'a [u16], limit: u8) -> bool
+    ensures { λ r. ⌜ r ≡ soundOf (now (parent .entry)) (now (size .entry)) limit ⌝ }
 {
     let cells = parent.len();
     if size.len() != cells {
@@ -25,12 +25,12 @@ pub fn sound<'a>(parent: &'a [u16], size: &'a [u16], most: u8) -> bool
     if !all_within(size, 1, cells + 1) {
         return false;
     }
-    if reaches(most, cells) {
+    if reaches(limit, cells) {
         if doubles(parent, size) {
             return true;
         }
     }
-    walks_end(parent, most)
+    walks_end(parent, limit)
 }
 
 // Whether each label is at most the bound.
@@ -72,14 +72,14 @@ pub fn all_within(numbers: &[u16], low: usize, end: usize) -> bool
 
 // Whether sizes can tell: a walk of `most` steps, each of which doubles a size, reaches the size `cells`, and there are no more
 // than are gathered below.
-fn reaches(most: u8, cells: usize) -> bool
-    ensures { λ r. ⌜ r ≡ (leb cells 1024 && leb cells (2 ^ most)) ⌝ }
+fn reaches(limit: u8, cells: usize) -> bool
+    ensures { λ r. ⌜ r ≡ (leb cells 1024 && leb cells (2 ^ limit)) ⌝ }
 {
     if 1024 < cells {
         return false;
     }
-    if most < 64 {
-        let top = 1usize << most;
+    if limit < 64 {
+        let top = 1usize << limit;
         return cells <= top;
     }
     true
@@ -131,12 +131,12 @@ fn lack(cell: u16, up: u16, own: u16, above: u16) -> u16
 }
 
 // Whether every cell's walk ends.
-fn walks_end(parent: &[u16], most: u8) -> bool
-    ensures { λ r. ⌜ r ≡ every (endsFrom (now (parent .entry)) most) 0 (now (parent .entry)) ⌝ }
+fn walks_end(parent: &[u16], limit: u8) -> bool
+    ensures { λ r. ⌜ r ≡ every (endsFrom (now (parent .entry)) limit) 0 (now (parent .entry)) ⌝ }
 {
     let mut i = 0;
     while i < parent.len() {
-        if !ends_from(parent, most, i) {
+        if !ends_from(parent, limit, i) {
             return false;
         }
         i += 1;
@@ -145,12 +145,12 @@ fn walks_end(parent: &[u16], most: u8) -> bool
 }
 
 // Whether the cell's walk ends.
-fn ends_from(parent: &[u16], most: u8, cell: usize) -> bool
-    ensures { λ r. ⌜ r ≡ ends (parentIn (now (parent .entry))) most cell ⌝ }
+fn ends_from(parent: &[u16], limit: u8, cell: usize) -> bool
+    ensures { λ r. ⌜ r ≡ ends (parentIn (now (parent .entry))) limit cell ⌝ }
 {
     let mut at = cell;
     let mut steps: u8 = 0;
-    while steps < most {
+    while steps < limit {
         let next = up(parent, at);
         if next == at {
             return true;

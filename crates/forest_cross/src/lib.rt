@@ -2,7 +2,7 @@
 // there back again, until no new group is met. A cell's key is the root of its tree; the cells of one key are a group, and are
 // listed (crate lists).
 use buckets::list_entries;
-use buckets::number_at;
+use buckets::entry_at;
 ghost use Prim.Native.Nat.{_<_};
 ghost use Rattle.forest_cross.specs.Across.{Keyed, JoinedAcross};
 ghost use Rattle.forest_cross.specs.Marks.{Sides, Begins, Crossed};
@@ -27,9 +27,9 @@ fn from_backward(
         (now («forward_marks» .entry)) (now («backward_marks» .exit)) (now («forward_marks» .exit)) ⌝ }
 {
     backward_marks[group] = 1;
-    let mut cell = number_at(backward_first, group);
+    let mut cell = entry_at(backward_first, group);
     while cell < backward.len() {
-        let shared = number_at(forward, cell);
+        let shared = entry_at(forward, cell);
         if forward_marks[shared] == 0 {
             from_forward(
                 shared,
@@ -43,7 +43,7 @@ fn from_backward(
                 backward_marks,
             );
         }
-        cell = number_at(backward_next, cell);
+        cell = entry_at(backward_next, cell);
     }
 }
 
@@ -67,9 +67,9 @@ fn from_forward(
         (now («backward_marks» .entry)) (now («forward_marks» .exit)) (now («backward_marks» .exit)) ⌝ }
 {
     forward_marks[group] = 1;
-    let mut cell = number_at(forward_first, group);
+    let mut cell = entry_at(forward_first, group);
     while cell < forward.len() {
-        let shared = number_at(backward, cell);
+        let shared = entry_at(backward, cell);
         if backward_marks[shared] == 0 {
             from_backward(
                 shared,
@@ -83,7 +83,7 @@ fn from_forward(
                 forward_marks,
             );
         }
-        cell = number_at(forward_next, cell);
+        cell = entry_at(forward_next, cell);
     }
 }
 
@@ -96,8 +96,8 @@ pub fn joined_across(backward: &[u16; 1024], forward: &[u16; 1024], one: u16, ot
     requires other { ⌜ other < 1024 ⌝ }
     ensures { λ r. ⌜ JoinedAcross (now (backward .entry)) (now (forward .entry)) one other r ⌝ }
 {
-    let start = number_at(backward, one as usize);
-    let asked = number_at(backward, other as usize);
+    let start = entry_at(backward, one as usize);
+    let asked = entry_at(backward, other as usize);
     // 1024 ends a list: to begin with, all are empty.
     let mut backward_first = [1024u16; 1024];
     let mut backward_next = [1024u16; 1024];

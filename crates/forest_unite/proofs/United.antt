@@ -13,13 +13,13 @@ use borrow.Author.Tests.{eq-eqb, ne-eqb}
 use lib.Dec.{eqb}
 use lib.ListN.{length, getD, set, length-set}
 use lib.Seq.{getD-set-same, getD-set-other, set-out}
-use Rattle.graph.specs.Forest.{Forest, climb, put, hung, goesUnder, joinRoots, unite}
+use Rattle.graph.specs.Forest.{Forest, climb, put, merged, goesUnder, joinRoots, unite}
 use Rattle.graph.specs.Link.{Link}
 use Rattle.forest.specs.Arrays.{parentIn, sizeIn, labelIn, held}
 use Rattle.forest.proofs.Held.{root-below}
 use Rattle.forest.proofs.Ranged.{Ranged}
-use Rattle.forest_unite.specs.declared.Hang.{Hang}
-use Rattle.forest_unite.specs.United.{together, under, hangRoots, hangOf, hungParents, hungSizes, hungLabels, United}
+use Rattle.forest_unite.specs.declared.Merge.{Merge}
+use Rattle.forest_unite.specs.United.{noMerge, under, mergeOfRoots, mergeOf, mergedParents, mergedSizes, mergedLabels, United}
 
 -- ---- stores
 store-put : (l : List ℕ) (i v : ℕ) (d : ℕ → ℕ) → i < length l → (λ x. getD (set l i v) x (d x)) ≡ put i v (λ x. getD l x (d x))
@@ -43,19 +43,19 @@ label-put n child h none = fun-ext (λ x. both (eqb x child))
     both true = refl
     both false = refl
 
-pub no-labels : (h : Hang) → hungLabels [] h 0 ≡ []
-no-labels h = picked (h .apart)
+pub no-labels : (h : Merge) → mergedLabels [] h 0 ≡ []
+no-labels h = picked (h .different)
   where
     picked : (t : Bool) → cond t (set {A = ℕ} [] (h .child) 0) [] ≡ []
     picked true = refl
     picked false = refl
 
 -- the forest that the lists hold after a link
-abbrev pub after : List ℕ → List ℕ → List ℕ → ℕ → Hang → Forest
-after ps ss ls label h = held (hungParents ps h) (hungSizes ss h) (hungLabels ls h label)
+abbrev pub after : List ℕ → List ℕ → List ℕ → ℕ → Merge → Forest
+after ps ss ls label h = held (mergedParents ps h) (mergedSizes ss h) (mergedLabels ls h label)
 
 module _ {n : ℕ} (ps ss ls : List ℕ) (label : ℕ) (r : Ranged n ps ss) (narrow : n < 2 ^ 15) (l : Labels n ls label) where
-  after-under : (child top : ℕ) → child < n → top < n → after ps ss ls label (under ss child top) ≡ hung (held ps ss ls) label child top
+  after-under : (child top : ℕ) → child < n → top < n → after ps ss ls label (under ss child top) ≡ merged (held ps ss ls) label child top
   after-under child top hc ht =
       λ i.
       record {
@@ -70,11 +70,11 @@ module _ {n : ℕ} (ps ss ls : List ℕ) (label : ℕ) (r : Ranged n ps ss) (nar
       size : sizeIn (set ss top ((sizeIn ss top + sizeIn ss child) % 2 ^ 16)) ≡ put top (sizeIn ss top + sizeIn ss child) (sizeIn ss)
       size = rw sum (store-put ss top _ (λ c. 1) (rw (r .sizes-long) ht))
 
-  after-roots : (a b : ℕ) → a < n → b < n → after ps ss ls label (hangRoots ss a b) ≡ joinRoots (held ps ss ls) label a b
+  after-roots : (a b : ℕ) → a < n → b < n → after ps ss ls label (mergeOfRoots ss a b) ≡ joinRoots (held ps ss ls) label a b
   after-roots a b ha hb = picked (eqb a b) (goesUnder (sizeIn ss) a b)
     where
-      picked : (t u : Bool) → after ps ss ls label (cond t together (cond u (under ss a b) (under ss b a)))
-          ≡ cond t (held ps ss ls) (cond u (hung (held ps ss ls) label a b) (hung (held ps ss ls) label b a))
+      picked : (t u : Bool) → after ps ss ls label (cond t noMerge (cond u (under ss a b) (under ss b a)))
+          ≡ cond t (held ps ss ls) (cond u (merged (held ps ss ls) label a b) (merged (held ps ss ls) label b a))
       picked true u = refl
       picked false true = after-under a b ha hb
       picked false false = after-under b a hb ha
@@ -89,8 +89,8 @@ cond-both : (P : ℕ → Type 0) (t : Bool) {a b : ℕ} → P a → P b → P (c
 cond-both P true p q = p
 cond-both P false p q = q
 
-hung-among : {n : ℕ} (f : Forest) (label child top : ℕ) → child < n → top < n → Among n f → Among n (hung f label child top)
-hung-among {n} f label child top hc ht r =
+merged-among : {n : ℕ} (f : Forest) (label child top : ℕ) → child < n → top < n → Among n f → Among n (merged f label child top)
+merged-among {n} f label child top hc ht r =
     record {
       parent = λ c h. cond-both (λ m. m < n) (eqb c child) ht (r .parent c h);
       size = λ c h. cond-both (λ m. 1 ≤ m) (eqb c top) (omega (arith, r .size top ht)) (r .size c h);
@@ -99,10 +99,10 @@ hung-among {n} f label child top hc ht r =
 join-among : {n : ℕ} (f : Forest) (label a b : ℕ) → a < n → b < n → Among n f → Among n (joinRoots f label a b)
 join-among {n} f label a b ha hb r = picked (eqb a b) (goesUnder (f .size) a b)
   where
-    picked : (t u : Bool) → Among n (cond t f (cond u (hung f label a b) (hung f label b a)))
+    picked : (t u : Bool) → Among n (cond t f (cond u (merged f label a b) (merged f label b a)))
     picked true u = r
-    picked false true = hung-among f label a b ha hb r
-    picked false false = hung-among f label b a hb ha r
+    picked false true = merged-among f label a b ha hb r
+    picked false false = merged-among f label b a hb ha r
 
 stored-length : (t : Bool) (l : List ℕ) (i v : ℕ) → length (cond t (set l i v) l) ≡ length l
 stored-length true l i v = length-set l i v
@@ -110,44 +110,44 @@ stored-length false l i v = refl
 
 -- ---- one link more
 module _ {n : ℕ} (ps ss ls : List ℕ) (label : ℕ) (r : Ranged n ps ss) (narrow : n < 2 ^ 15) (l : Labels n ls label)
-    (most : ℕ) (x : Link) (one : x .one < n) (other : x .other < n) where
-  root : (c : ℕ) → c < n → climb (parentIn ps) most c .root < n
-  root = root-below (parentIn ps) n (r .parent-below) most
+    (limit : ℕ) (x : Link) (one : x .one < n) (other : x .other < n) where
+  root : (c : ℕ) → c < n → climb (parentIn ps) limit c .root < n
+  root = root-below (parentIn ps) n (r .parent-below) limit
 
-  pub held-unite : after ps ss ls label (hangOf ps ss most (x .one) (x .other)) ≡ unite most (held ps ss ls) (record { label = label; link = x })
+  pub held-unite : after ps ss ls label (mergeOf ps ss limit (x .one) (x .other)) ≡ unite limit (held ps ss ls) (record { label = label; link = x })
   unfolding unite
   held-unite = after-roots ps ss ls label r narrow l _ _ (root (x .one) one) (root (x .other) other)
 
   -- as the contract of `unite` says it
-  pub held-united : {ps′ ss′ ls′ : List ℕ} → United ps ss ls most (x .one) (x .other) label ps′ ss′ ls′
-      → held ps′ ss′ ls′ ≡ unite most (held ps ss ls) (record { label = label; link = x })
+  pub held-united : {ps′ ss′ ls′ : List ℕ} → United ps ss ls limit (x .one) (x .other) label ps′ ss′ ls′
+      → held ps′ ss′ ls′ ≡ unite limit (held ps ss ls) (record { label = label; link = x })
   held-united u = (λ i. held (u .parents i) (u .sizes i) (u .labels i)) ∙ held-unite
 
-  among : Among n (unite most (held ps ss ls) (record { label = label; link = x }))
+  among : Among n (unite limit (held ps ss ls) (record { label = label; link = x }))
   unfolding unite
   among =
       join-among (held ps ss ls) label _ _ (root (x .one) one) (root (x .other) other)
       (record { parent = r .parent-below; size = r .size-from })
 
   -- the lists stay in their ranges while no size exceeds the number of cells
-  pub ranged-unite : ((c : ℕ) → c < n → unite most (held ps ss ls) (record { label = label; link = x }) .size c ≤ n)
-      → Ranged n (hungParents ps (hangOf ps ss most (x .one) (x .other))) (hungSizes ss (hangOf ps ss most (x .one) (x .other)))
+  pub ranged-unite : ((c : ℕ) → c < n → unite limit (held ps ss ls) (record { label = label; link = x }) .size c ≤ n)
+      → Ranged n (mergedParents ps (mergeOf ps ss limit (x .one) (x .other))) (mergedSizes ss (mergeOf ps ss limit (x .one) (x .other)))
   ranged-unite small =
       record {
-        parents-long = stored-length (h .apart) ps (h .child) (h .top) ∙ r .parents-long;
-        sizes-long = stored-length (h .apart) ss (h .top) (h .size) ∙ r .sizes-long;
+        parents-long = stored-length (h .different) ps (h .child) (h .top) ∙ r .parents-long;
+        sizes-long = stored-length (h .different) ss (h .top) (h .size) ∙ r .sizes-long;
         parent-below = λ c k. subst⁻¹ (λ (f : Forest). f .parent c < n) held-unite (among .parent c k);
         size-from = λ c k. subst⁻¹ (λ (f : Forest). 1 ≤ f .size c) held-unite (among .size c k);
         size-to = λ c k. subst⁻¹ (λ (f : Forest). f .size c ≤ n) held-unite (small c k);
       }
     where
-      h : Hang
-      h = hangOf ps ss most (x .one) (x .other)
+      h : Merge
+      h = mergeOf ps ss limit (x .one) (x .other)
 
 -- labels stay within the bound
-pub labels-unite : (ls : List ℕ) (h : Hang) (label bound : ℕ) → ((c : ℕ) → labelIn ls c ≤ bound) → label ≤ bound
-    → (c : ℕ) → labelIn (hungLabels ls h label) c ≤ bound
-labels-unite ls h label bound within k c = picked (h .apart)
+pub labels-unite : (ls : List ℕ) (h : Merge) (label bound : ℕ) → ((c : ℕ) → labelIn ls c ≤ bound) → label ≤ bound
+    → (c : ℕ) → labelIn (mergedLabels ls h label) c ≤ bound
+labels-unite ls h label bound within k c = picked (h .different)
   where
     at : Dec (c ≡ h .child) → Dec (length ls ≤ h .child) → labelIn (set ls (h .child) label) c ≤ bound
     at (no q) d = rw (getD-set-other ls (h .child) c label 0 q) (within c)

@@ -4,40 +4,40 @@ pub mod roots; // roots.rt: who hangs under whom
 
 ghost use mathlib.Core.Path.{_≡_};
 ghost use lib.ListN.{set};
-ghost use Rattle.forest_unite.specs.United.{hungParents, hungSizes, hungLabels, United};
+ghost use Rattle.forest_unite.specs.United.{mergedParents, mergedSizes, mergedLabels, United};
 
 // What a link does to a forest. Where its ends have different roots (apart), the root child goes under
 // the root top, whose tree then has size cells. Otherwise nothing, and the numbers are 0.
-pub struct Hang {
-    pub apart: bool,
+pub struct Merge {
+    pub different: bool,
     pub child: u16,
     pub top: u16,
     pub size: u16,
 }
 
 // The child's new parent.
-pub fn hang_parent(parent: &mut [u16; 1024], h: Hang)
-    ensures { λ _. ⌜ now (parent .exit) ≡ hungParents (now (parent .entry)) h ⌝ }
+pub fn merge_parents(parent: &mut [u16; 1024], h: Merge)
+    ensures { λ _. ⌜ now (parent .exit) ≡ mergedParents (now (parent .entry)) h ⌝ }
 {
-    if h.apart {
+    if h.different {
         store(parent, h.child, h.top);
     }
 }
 
 // The top's new size.
-pub fn hang_size(size: &mut [u16; 1024], h: Hang)
-    ensures { λ _. ⌜ now (size .exit) ≡ hungSizes (now (size .entry)) h ⌝ }
+pub fn merge_sizes(size: &mut [u16; 1024], h: Merge)
+    ensures { λ _. ⌜ now (size .exit) ≡ mergedSizes (now (size .entry)) h ⌝ }
 {
-    if h.apart {
+    if h.different {
         store(size, h.top, h.size);
     }
 }
 
 // The label of the child's step.
-pub fn hang_label(label: &mut [u8; 1024], h: Hang, place: u8)
-    ensures { λ _. ⌜ now (label .exit) ≡ hungLabels (now (label .entry)) h place ⌝ }
+pub fn merge_labels(label: &mut [u8; 1024], h: Merge, place: u8)
+    ensures { λ _. ⌜ now (label .exit) ≡ mergedLabels (now (label .entry)) h place ⌝ }
 {
-    if h.apart {
+    if h.different {
         store_label(label, h.child, place);
     }
 }
@@ -47,24 +47,24 @@ pub fn unite(
     parent: &mut [u16; 1024],
     size: &mut [u16; 1024],
     label: &mut [u8; 1024],
-    most: u8,
+    limit: u8,
     place: u8,
     one: u16,
     other: u16,
 )
-    ensures { λ _. ⌜ United (now (parent .entry)) (now (size .entry)) (now (label .entry)) most one other place
+    ensures { λ _. ⌜ United (now (parent .entry)) (now (size .entry)) (now (label .entry)) limit one other place
         (now (parent .exit)) (now (size .exit)) (now (label .exit)) ⌝ }
 {
-    let a = forest::walks::root(parent, most, one);
-    let b = forest::walks::root(parent, most, other);
+    let a = forest::walks::root(parent, limit, one);
+    let b = forest::walks::root(parent, limit, other);
     // Most links of a full window find their ends joined already.
     if a == b {
         return;
     }
-    let h = roots::hang_roots(size, a, b);
-    hang_parent(parent, h);
-    hang_size(size, h);
-    hang_label(label, h, place);
+    let h = roots::merge_of_roots(size, a, b);
+    merge_parents(parent, h);
+    merge_sizes(size, h);
+    merge_labels(label, h, place);
 }
 
 // The cell's number stored; beyond the slice nothing is.

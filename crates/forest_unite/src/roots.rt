@@ -2,35 +2,35 @@
 ghost use mathlib.Core.Path.{_≡_};
 ghost use Rattle.graph.specs.Forest.{goesUnder};
 ghost use Rattle.forest.specs.Arrays.{sizeIn};
-ghost use Rattle.forest_unite.specs.United.{under, hangRoots, hangOf};
-use super::Hang;
+ghost use Rattle.forest_unite.specs.United.{under, mergeOfRoots, mergeOf};
+use super::Merge;
 use forest::walks::root;
 
 // What a link of the two cells does to the forest.
-pub fn hang<'a>(parent: &'a [u16], size: &'a [u16], most: u8, one: u16, other: u16) -> Hang
-    ensures { λ r. ⌜ r ≡ hangOf (now (parent .entry)) (now (size .entry)) most one other ⌝ }
+pub fn merge_of<'a>(parent: &'a [u16], size: &'a [u16], limit: u8, one: u16, other: u16) -> Merge
+    ensures { λ r. ⌜ r ≡ mergeOf (now (parent .entry)) (now (size .entry)) limit one other ⌝ }
 {
-    let a = root(parent, most, one);
-    let b = root(parent, most, other);
-    hang_roots(size, a, b)
+    let a = root(parent, limit, one);
+    let b = root(parent, limit, other);
+    merge_of_roots(size, a, b)
 }
 
 // Of two roots, who hangs under whom.
-pub fn hang_roots(size: &[u16], a: u16, b: u16) -> Hang
-    ensures { λ r. ⌜ r ≡ hangRoots (now (size .entry)) a b ⌝ }
+pub fn merge_of_roots(size: &[u16], a: u16, b: u16) -> Merge
+    ensures { λ r. ⌜ r ≡ mergeOfRoots (now (size .entry)) a b ⌝ }
 {
     if a == b {
-        return Hang {
-            apart: false,
+        return Merge {
+            different: false,
             child: 0,
             top: 0,
             size: 0,
         };
     }
     if goes_under(size, a, b) {
-        hang_under(size, a, b)
+        merge_under(size, a, b)
     } else {
-        hang_under(size, b, a)
+        merge_under(size, b, a)
     }
 }
 
@@ -50,12 +50,12 @@ fn goes_under(size: &[u16], a: u16, b: u16) -> bool
 }
 
 // The child under the top, with the size of both trees.
-fn hang_under(size: &[u16], child: u16, top: u16) -> Hang
+fn merge_under(size: &[u16], child: u16, top: u16) -> Merge
     ensures { λ r. ⌜ r ≡ under (now (size .entry)) child top ⌝ }
 {
     let both = std::num::wrapping_add_u16(size_of(size, top), size_of(size, child));
-    Hang {
-        apart: true,
+    Merge {
+        different: true,
         child,
         top,
         size: both,

@@ -13,10 +13,10 @@ use native.Mathlib.Nat.{le-trans, lt-of-not-le}
 use lib.Dec.{ltb}
 use borrow.Author.Tests.{eq-eqb, ne-eqb, lt-ltb, le-ltb}
 use Rattle.graph.specs.Link.{Chained}
-use Rattle.graph.specs.Forest.{Forest, fresh, climb, walk, parentAt, walkAt, hung, Labelled, forestOf, atLeast}
+use Rattle.graph.specs.Forest.{Forest, fresh, climb, walk, parentAt, walkAt, merged, Labelled, forestOf, atLeast}
 use Rattle.graph.specs.Forest.{Each, empty, also, EndsBelow, NeverRise, start, lowest}
 use Rattle.graph.proofs.Walks.{put-here, put-other}
-use Rattle.graph.proofs.Sizes.{Hangs}
+use Rattle.graph.proofs.Sizes.{Merges}
 use Rattle.graph.proofs.Forests.{United, kept, hangs, united, grown, same-root, walk-ends, walk-short}
 
 pub each-map : {P Q : Labelled → Type 0} {xs : List Labelled} → ((x : Labelled) → P x → Q x) → Each P xs → Each Q xs
@@ -42,22 +42,22 @@ pub data Step (P : ℕ → Type 0) (f : Forest) (c : ℕ) : Type 0 where
   stays : f .parent c ≡ c → f .label c ≡ 0 → Step P f c
   goes : ¬ (f .parent c ≡ c) → P (f .label c) → Step P f c
 
-hung-step : {P : ℕ → Type 0} {k : ℕ} {f : Forest} {child top : ℕ} (label : ℕ) → Hangs k f child top → P label →
-    (c : ℕ) → Step P f c → Step P (hung f label child top) c
-hung-step {P} {f} {child} {top} label h p c s = go (ℕ-discrete c child) s
+merged-step : {P : ℕ → Type 0} {k : ℕ} {f : Forest} {child top : ℕ} (label : ℕ) → Merges k f child top → P label →
+    (c : ℕ) → Step P f c → Step P (merged f label child top) c
+merged-step {P} {f} {child} {top} label h p c s = go (ℕ-discrete c child) s
   where
-    go : Dec (c ≡ child) → Step P f c → Step P (hung f label child top) c
+    go : Dec (c ≡ child) → Step P f c → Step P (merged f label child top) c
     go (yes e) _ =
-        goes (λ q. h .apart (sym e ∙ sym q ∙ put-here child top (f .parent) c e))
+        goes (λ q. h .different (sym e ∙ sym q ∙ put-here child top (f .parent) c e))
         (rw (put-here child label (f .label) c e) p)
     go (no n) (stays r z) = stays (put-other child top (f .parent) c n ∙ r) (put-other child label (f .label) c n ∙ z)
     go (no n) (goes r q) =
         goes (rw (put-other child top (f .parent) c n) r) (rw (put-other child label (f .label) c n) q)
 
-united-step : {P : ℕ → Type 0} {k most : ℕ} {f f′ : Forest} {x : Labelled} → United k most f x f′ → P (x .label) →
+united-step : {P : ℕ → Type 0} {k limit : ℕ} {f f′ : Forest} {x : Labelled} → United k limit f x f′ → P (x .label) →
     ((c : ℕ) → Step P f c) → (c : ℕ) → Step P f′ c
 united-step (kept _) p on c = on c
-united-step {x} (hangs _ h) p on c = hung-step (x .label) h p c (on c)
+united-step {x} (hangs _ h) p on c = merged-step (x .label) h p c (on c)
 
 pub cond-same : (t : Bool) (c : ℕ) → cond t c c ≡ c
 cond-same true c = refl
@@ -72,34 +72,34 @@ uncut : (f : Forest) (cut c : ℕ) → Step (λ l. cut ≤ l) f c → parentAt f
 uncut f cut c (stays e _) = root-at f cut c e ∙ sym e
 uncut f cut c (goes _ p) = rw (le-ltb (f .label c) cut p)
 
-united-cut : {k most : ℕ} {f f′ : Forest} {x : Labelled} → United k most f x f′ → (cut : ℕ) → x .label < cut →
+united-cut : {k limit : ℕ} {f f′ : Forest} {x : Labelled} → United k limit f x f′ → (cut : ℕ) → x .label < cut →
     (c : ℕ) → parentAt f′ cut c ≡ parentAt f cut c
 united-cut (kept _) cut l c = refl
 united-cut {f} {x} (hangs {child} {top} _ h) cut l c = go (ℕ-discrete c child)
   where
-    go : Dec (c ≡ child) → parentAt (hung f (x .label) child top) cut c ≡ parentAt f cut c
+    go : Dec (c ≡ child) → parentAt (merged f (x .label) child top) cut c ≡ parentAt f cut c
     go (yes e) = simp (eq-eqb c child e, lt-ltb (x .label) cut l) (sym (root-at f cut c (rw e (h .under .stays))))
     go (no n) = simp (ne-eqb c child n)
 
-module _ {k most : ℕ} (enough : k ≤ most) where
+module _ {k limit : ℕ} (enough : k ≤ limit) where
   pub forest-step : (P : ℕ → Type 0) {xs : List Labelled} → EndsBelow (2 ^ k) xs → Each (λ x. P (x .label)) xs →
-      (c : ℕ) → Step P (forestOf most xs) c
+      (c : ℕ) → Step P (forestOf limit xs) c
   unfolding forestOf
   forest-step P empty empty c = stays refl refl
   forest-step P (also b ends) (also p ps) c =
       united-step (united enough (grown enough ends) _ b) p (forest-step P ends ps) c
 
   cut-parent : (cut : ℕ) {xs : List Labelled} → EndsBelow (2 ^ k) xs → NeverRise xs →
-      (c : ℕ) → parentAt (forestOf most xs) cut c ≡ forestOf most (atLeast cut xs) .parent c
+      (c : ℕ) → parentAt (forestOf limit xs) cut c ≡ forestOf limit (atLeast cut xs) .parent c
   unfolding forestOf atLeast
   cut-parent cut empty start c = root-at fresh cut c refl
   cut-parent cut (also {x} {xs} b ends) (lowest low falls) c = go (decLe cut (x .label)) (cut-parent cut ends falls c)
     where
-      go : Dec (cut ≤ x .label) → parentAt (forestOf most xs) cut c ≡ forestOf most (atLeast cut xs) .parent c →
-          parentAt (forestOf most (x ∷ xs)) cut c ≡ forestOf most (atLeast cut (x ∷ xs)) .parent c
+      go : Dec (cut ≤ x .label) → parentAt (forestOf limit xs) cut c ≡ forestOf limit (atLeast cut xs) .parent c →
+          parentAt (forestOf limit (x ∷ xs)) cut c ≡ forestOf limit (atLeast cut (x ∷ xs)) .parent c
       go (yes l) _ =
           let above : Each (λ y. cut ≤ y .label) (x ∷ xs) = also l (each-map (λ y. le-trans l) low) in
-          rw (all-at-least cut above) (uncut (forestOf most (x ∷ xs)) cut c (forest-step _ (also b ends) above c))
+          rw (all-at-least cut above) (uncut (forestOf limit (x ∷ xs)) cut c (forest-step _ (also b ends) above c))
       go (no n) on =
           let l : x .label < cut = lt-of-not-le n in
           rw (lt-ltb (x .label) cut l) (united-cut (united enough (grown enough ends) x b) cut l c ∙ on)
@@ -107,37 +107,37 @@ module _ {k most : ℕ} (enough : k ≤ most) where
   module _ {xs : List Labelled} (ends : EndsBelow (2 ^ k) xs) where
     -- the label of a step is that of a link: P holds of it, if of all those
     pub label-of-step : (P : ℕ → Type 0) → Each (λ x. P (x .label)) xs →
-        (c : ℕ) → ¬ (forestOf most xs .parent c ≡ c) → P (forestOf most xs .label c)
+        (c : ℕ) → ¬ (forestOf limit xs .parent c ≡ c) → P (forestOf limit xs .label c)
     label-of-step P ps c n = go (forest-step P ends ps c)
       where
-        go : Step P (forestOf most xs) c → P (forestOf most xs .label c)
+        go : Step P (forestOf limit xs) c → P (forestOf limit xs .label c)
         go (stays e _) = absurd (n e)
         go (goes _ p) = p
 
-    pub label-bounded : (m : ℕ) → Each (λ x. x .label ≤ m) xs → (c : ℕ) → forestOf most xs .label c ≤ m
+    pub label-bounded : (m : ℕ) → Each (λ x. x .label ≤ m) xs → (c : ℕ) → forestOf limit xs .label c ≤ m
     label-bounded m ps c = go (forest-step (λ l. l ≤ m) ends ps c)
       where
-        go : Step (λ l. l ≤ m) (forestOf most xs) c → forestOf most xs .label c ≤ m
+        go : Step (λ l. l ≤ m) (forestOf limit xs) c → forestOf limit xs .label c ≤ m
         go (stays _ z) = rw z zero-le
         go (goes _ p) = p
 
     module _ (falls : NeverRise xs) (cut : ℕ) where
-      pub cut-is-forest : parentAt (forestOf most xs) cut ≡ forestOf most (atLeast cut xs) .parent
+      pub cut-is-forest : parentAt (forestOf limit xs) cut ≡ forestOf limit (atLeast cut xs) .parent
       cut-is-forest = fun-ext (cut-parent cut ends falls)
 
-      pub walk-at-is-walk : (c : ℕ) → walkAt most (forestOf most xs) cut c ≡ walk most (forestOf most (atLeast cut xs)) c
+      pub walk-at-is-walk : (c : ℕ) → walkAt limit (forestOf limit xs) cut c ≡ walk limit (forestOf limit (atLeast cut xs)) c
       unfolding walk walkAt
-      walk-at-is-walk c = ap (λ up. climb up most c) cut-is-forest
+      walk-at-is-walk c = ap (λ up. climb up limit c) cut-is-forest
 
       pub same-root-at : (a b : ℕ) →
-          (walkAt most (forestOf most xs) cut a .root ≡ walkAt most (forestOf most xs) cut b .root) ↔
+          (walkAt limit (forestOf limit xs) cut a .root ≡ walkAt limit (forestOf limit xs) cut b .root) ↔
           Chained (map (λ x. x .link) (atLeast cut xs)) a b
       same-root-at a b = rw (walk-at-is-walk a, walk-at-is-walk b) (same-root enough (each-at-least cut ends) a b)
 
-      pub walk-at-short : (c : ℕ) → walkAt most (forestOf most xs) cut c .steps ≤ k
+      pub walk-at-short : (c : ℕ) → walkAt limit (forestOf limit xs) cut c .steps ≤ k
       walk-at-short c = rw (walk-at-is-walk c) (walk-short enough (each-at-least cut ends) c)
 
       pub walk-at-ends : (c : ℕ) →
-          parentAt (forestOf most xs) cut (walkAt most (forestOf most xs) cut c .root) ≡
-          walkAt most (forestOf most xs) cut c .root
+          parentAt (forestOf limit xs) cut (walkAt limit (forestOf limit xs) cut c .root) ≡
+          walkAt limit (forestOf limit xs) cut c .root
       walk-at-ends c = rw (walk-at-is-walk c) (cut-parent cut ends falls _ ∙ walk-ends enough (each-at-least cut ends) c)

@@ -16,7 +16,7 @@ use lib.ListN.{length}
 use borrow.Author.Tests.{eqb-true, eq-eqb}
 use Rattle.graph.specs.Link.{Link, along, against, Linked, here, there, Chained, same}
 use Rattle.graph.specs.Trail.{Trail, arrive, step, Best, smaller, fewestLinks}
-use Rattle.graph.specs.Trail.{isSome, offered, nextCell, descend, trailBy, trailOf}
+use Rattle.graph.specs.Trail.{isSome, offered, nextCell, descend, trailOfLinks, trailOf}
 use Rattle.graph.proofs.Chains.{Relinks, chained-relink, chained?}
 use Rattle.graph.proofs.Fewest.{Within, within, within-is, is-within, within-least}
 use Rattle.graph.proofs.Fewest.{smaller-left, smaller-right, smaller-cases}
@@ -164,21 +164,21 @@ descend-best ls b (suc k) e =
     let (c, s) = smallest h f in
     rw (s .is) (best-onward e s (descend-best ls b k (s .count)))
 
-trail-by : (ls : List Link) (a b : ℕ) {x : Option ℕ} → fewestLinks ls a b ≡ x → trailOf ls a b ≡ trailBy ls a b x
+trail-by : (ls : List Link) (a b : ℕ) {x : Option ℕ} → fewestLinks ls a b ≡ x → trailOf ls a b ≡ trailOfLinks ls a b x
 unfolding trailOf
-trail-by ls a b e = ap (trailBy ls a b) e
+trail-by ls a b e = ap (trailOfLinks ls a b) e
 
 -- the finder finds the best trail
 pub trailOf-best : {ls : List Link} {a b : ℕ} → Chained ls a b → Best ls a b (trailOf ls a b)
-unfolding trailBy
+unfolding trailOfLinks
 trailOf-best {ls} {a} {b} x =
     let (k, e) = trail-fewest (chained-trail x .1) in
     rw (trail-by ls a b e) (descend-best ls b k e)
 
 -- where there is none, it gives the empty list
 pub trailOf-none : (ls : List Link) (a b : ℕ) → (Chained ls a b → ⊥) → trailOf ls a b ≡ []
-unfolding trailBy
-trailOf-none ls a b apart = go (fewestLinks ls a b) refl
+unfolding trailOfLinks
+trailOf-none ls a b different = go (fewestLinks ls a b) refl
   where
     go : (x : Option ℕ) → fewestLinks ls a b ≡ x → trailOf ls a b ≡ []
     go none e = trail-by ls a b e

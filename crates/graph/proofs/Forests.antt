@@ -13,22 +13,22 @@ use native.Mathlib.Decide.{ℕ-discrete, decLe}
 use native.Mathlib.Nat.{le-trans}
 use borrow.Author.Tests.{eq-eqb, ne-eqb, lt-ltb, le-ltb}
 use Rattle.graph.specs.Link.{Link, Between, along, against, Linked, here, there, Chained, same, more}
-use Rattle.graph.specs.Forest.{Forest, walk, put, goesUnder, hung, joinRoots, Labelled, unite, forestOf}
+use Rattle.graph.specs.Forest.{Forest, walk, put, goesUnder, merged, joinRoots, Labelled, unite, forestOf}
 use Rattle.graph.specs.Forest.{empty, also, EndsBelow}
 use Rattle.graph.proofs.Chains.{chained-sym, chained-trans, chained-agree, chained-there, chained-one}
 use Rattle.graph.proofs.Walks.{Way, arrived, way-ends, way-keeps, way-climb, way-size, way-short, way-put, climb-way}
 use Rattle.graph.proofs.Walks.{put-here, put-other, put-cases}
-use Rattle.graph.proofs.Sizes.{Grown, fresh-grown, Root, Hangs, hung-grown}
+use Rattle.graph.proofs.Sizes.{Grown, fresh-grown, Root, Merges, merged-grown}
 
 -- a link of the roots of the ends
 abbrev pub rootsOf : ℕ → Forest → Labelled → Link
-rootsOf most f x = record { one = walk most f (x .link .one) .root; other = walk most f (x .link .other) .root }
+rootsOf limit f x = record { one = walk limit f (x .link .one) .root; other = walk limit f (x .link .other) .root }
 
 -- what one link more makes of a forest
-pub data United (k most : ℕ) (f : Forest) (x : Labelled) : Forest → Type 0 where
-  kept : rootsOf most f x .one ≡ rootsOf most f x .other → United k most f x f
-  hangs : {child top : ℕ} → Between child top (rootsOf most f x) → Hangs k f child top →
-      United k most f x (hung f (x .label) child top)
+pub data United (k limit : ℕ) (f : Forest) (x : Labelled) : Forest → Type 0 where
+  kept : rootsOf limit f x .one ≡ rootsOf limit f x .other → United k limit f x f
+  hangs : {child top : ℕ} → Between child top (rootsOf limit f x) → Merges k f child top →
+      United k limit f x (merged f (x .label) child top)
 
 -- of two roots, the one that goes under the other has a tree that is smaller, or as large
 under-le : (size : ℕ → ℕ) (a b : ℕ) → goesUnder size a b ≡ true → size a ≤ size b
@@ -61,17 +61,17 @@ between-meet {child} {top} n (along p q) =
 between-meet {child} {top} n (against p q) =
     put-other child top (λ r. r) _ (λ e. n (sym e ∙ p)) ∙ p ∙ sym (put-here child top (λ r. r) _ q)
 
-module _ {k most : ℕ} (enough : k ≤ most) where
-  walk-way : {f : Forest} → Grown k f → (c : ℕ) → Way (f .parent) c (walk most f c)
+module _ {k limit : ℕ} (enough : k ≤ limit) where
+  walk-way : {f : Forest} → Grown k f → (c : ℕ) → Way (f .parent) c (walk limit f c)
   unfolding walk
-  walk-way g c = climb-way (g .doubles) most c enough
+  walk-way g c = climb-way (g .doubles) limit c enough
 
   pub united : {f : Forest} → Grown k f → (x : Labelled) → (x .link .one < 2 ^ k) × (x .link .other < 2 ^ k) →
-      United k most f x (unite most f x)
+      United k limit f x (unite limit f x)
   unfolding unite
   united {f} g x ends = go (ℕ-discrete a b)
     where
-      root : (c : ℕ) → c < 2 ^ k → Root k f (walk most f c .root)
+      root : (c : ℕ) → c < 2 ^ k → Root k f (walk limit f c .root)
       root c l =
           record {
             stays = way-ends (walk-way g c);
@@ -79,19 +79,19 @@ module _ {k most : ℕ} (enough : k ≤ most) where
           }
 
       a : ℕ
-      a = rootsOf most f x .one
+      a = rootsOf limit f x .one
 
       b : ℕ
-      b = rootsOf most f x .other
+      b = rootsOf limit f x .other
 
       hang : (t : Bool) → ¬ (a ≡ b) → goesUnder (f .size) a b ≡ t →
-          United k most f x (cond t (hung f (x .label) a b) (hung f (x .label) b a))
+          United k limit f x (cond t (merged f (x .label) a b) (merged f (x .label) b a))
       hang true n e =
           hangs (along refl refl)
           (record {
             under = root _ (ends .0);
             over = root _ (ends .1);
-            apart = n;
+            different = n;
             lighter = under-le (f .size) a b e;
           })
       hang false n e =
@@ -99,76 +99,76 @@ module _ {k most : ℕ} (enough : k ≤ most) where
           (record {
             under = root _ (ends .1);
             over = root _ (ends .0);
-            apart = λ s. n (sym s);
+            different = λ s. n (sym s);
             lighter = over-le (f .size) a b e;
           })
 
-      go : Dec (a ≡ b) → United k most f x (joinRoots f (x .label) a b)
+      go : Dec (a ≡ b) → United k limit f x (joinRoots f (x .label) a b)
       go (yes e) = rw (eq-eqb a b e) (kept e)
       go (no n) = rw (ne-eqb a b n) (hang (goesUnder (f .size) a b) n refl)
 
-  united-grown : {f f′ : Forest} {x : Labelled} → Grown k f → United k most f x f′ → Grown k f′
+  united-grown : {f f′ : Forest} {x : Labelled} → Grown k f → United k limit f x f′ → Grown k f′
   united-grown g (kept _) = g
-  united-grown {x} g (hangs _ h) = hung-grown g h (x .label)
+  united-grown {x} g (hangs _ h) = merged-grown g h (x .label)
 
-  pub grown : {xs : List Labelled} → EndsBelow (2 ^ k) xs → Grown k (forestOf most xs)
+  pub grown : {xs : List Labelled} → EndsBelow (2 ^ k) xs → Grown k (forestOf limit xs)
   unfolding forestOf
   grown empty = fresh-grown k
   grown (also p ends) = united-grown (grown ends) (united (grown ends) _ p)
 
   -- a cell under the child has the top for its root from then on, and every other keeps its root
-  hung-root : {f : Forest} {child top : ℕ} → Grown k f → Hangs k f child top → (label c : ℕ) →
-      walk most (hung f label child top) c .root ≡ put child top (λ r. r) (walk most f c .root)
+  merged-root : {f : Forest} {child top : ℕ} → Grown k f → Merges k f child top → (label c : ℕ) →
+      walk limit (merged f label child top) c .root ≡ put child top (λ r. r) (walk limit f c .root)
   unfolding walk
-  hung-root {f} g h label c =
-      let (w, way, root) = way-put (f .parent) (h .under .stays) (h .over .stays) (h .apart) (walk-way g c) in
-      ap (λ w. w .root) (way-climb way most (le-trans (way-short (hung-grown g h label .doubles) way) enough)) ∙ root
+  merged-root {f} g h label c =
+      let (w, way, root) = way-put (f .parent) (h .under .stays) (h .over .stays) (h .different) (walk-way g c) in
+      ap (λ w. w .root) (way-climb way limit (le-trans (way-short (merged-grown g h label .doubles) way) enough)) ∙ root
 
   -- a cell that was chained with its root is chained with its new one
-  united-chained : {f f′ : Forest} {x : Labelled} {ls : List Link} → Grown k f → United k most f x f′ →
-      ((c : ℕ) → Chained ls c (walk most f c .root)) → (c : ℕ) → Chained (x .link ∷ ls) c (walk most f′ c .root)
+  united-chained : {f f′ : Forest} {x : Labelled} {ls : List Link} → Grown k f → United k limit f x f′ →
+      ((c : ℕ) → Chained ls c (walk limit f c .root)) → (c : ℕ) → Chained (x .link ∷ ls) c (walk limit f′ c .root)
   united-chained g (kept _) on c = chained-there _ (on c)
   united-chained {f} {x} {ls} g (hangs {child} {top} b h) on c =
-      rw (hung-root g h (x .label) c)
+      rw (merged-root g h (x .label) c)
       (put-cases (Chained (x .link ∷ ls) c) child top (λ r. r) _
       (λ e. chained-trans (rw e at before) (between-chained b roots)) (λ _. before))
     where
-      before : Chained (x .link ∷ ls) c (walk most f c .root)
+      before : Chained (x .link ∷ ls) c (walk limit f c .root)
       before = chained-there _ (on c)
 
-      roots : Chained (x .link ∷ ls) (rootsOf most f x .one) (rootsOf most f x .other)
+      roots : Chained (x .link ∷ ls) (rootsOf limit f x .one) (rootsOf limit f x .other)
       roots =
           chained-trans (chained-sym (chained-there _ (on _)))
           (chained-trans (chained-one (here (along refl refl))) (chained-there _ (on _)))
 
   -- two cells that had one root still have, and the link's ends have one now
-  united-same : {f f′ : Forest} {x : Labelled} → Grown k f → United k most f x f′ → (a b : ℕ) →
-      walk most f a .root ≡ walk most f b .root → walk most f′ a .root ≡ walk most f′ b .root
+  united-same : {f f′ : Forest} {x : Labelled} → Grown k f → United k limit f x f′ → (a b : ℕ) →
+      walk limit f a .root ≡ walk limit f b .root → walk limit f′ a .root ≡ walk limit f′ b .root
   united-same g (kept _) a b e = e
   united-same {x} g (hangs {child} {top} _ h) a b e =
-      hung-root g h (x .label) a ∙ ap (put child top (λ r. r)) e ∙ sym (hung-root g h (x .label) b)
+      merged-root g h (x .label) a ∙ ap (put child top (λ r. r)) e ∙ sym (merged-root g h (x .label) b)
 
-  united-ends : {f f′ : Forest} {x : Labelled} → Grown k f → United k most f x f′ →
-      rootsOf most f′ x .one ≡ rootsOf most f′ x .other
+  united-ends : {f f′ : Forest} {x : Labelled} → Grown k f → United k limit f x f′ →
+      rootsOf limit f′ x .one ≡ rootsOf limit f′ x .other
   united-ends g (kept e) = e
   united-ends {x} g (hangs b h) =
-      hung-root g h (x .label) _ ∙ between-meet (h .apart) b ∙ sym (hung-root g h (x .label) _)
+      merged-root g h (x .label) _ ∙ between-meet (h .different) b ∙ sym (merged-root g h (x .label) _)
 
-  united-linked : {f f′ : Forest} {x : Labelled} {ls : List Link} → Grown k f → United k most f x f′ →
-      ((a b : ℕ) → Linked a b ls → walk most f a .root ≡ walk most f b .root) →
-      (a b : ℕ) → Linked a b (x .link ∷ ls) → walk most f′ a .root ≡ walk most f′ b .root
+  united-linked : {f f′ : Forest} {x : Labelled} {ls : List Link} → Grown k f → United k limit f x f′ →
+      ((a b : ℕ) → Linked a b ls → walk limit f a .root ≡ walk limit f b .root) →
+      (a b : ℕ) → Linked a b (x .link ∷ ls) → walk limit f′ a .root ≡ walk limit f′ b .root
   united-linked g u on a b (here (along p q)) = rw (← p, ← q) (united-ends g u)
   united-linked g u on a b (here (against p q)) = rw (← p, ← q) (sym (united-ends g u))
   united-linked g u on a b (there l) = united-same g u a b (on a b l)
 
   root-chained : {xs : List Labelled} → EndsBelow (2 ^ k) xs →
-      (c : ℕ) → Chained (map (λ x. x .link) xs) c (walk most (forestOf most xs) c .root)
+      (c : ℕ) → Chained (map (λ x. x .link) xs) c (walk limit (forestOf limit xs) c .root)
   unfolding forestOf walk
-  root-chained empty c = same (sym (ap (λ w. w .root) (way-climb (arrived refl) most zero-le)))
+  root-chained empty c = same (sym (ap (λ w. w .root) (way-climb (arrived refl) limit zero-le)))
   root-chained (also p ends) c = united-chained (grown ends) (united (grown ends) _ p) (root-chained ends) c
 
   linked-root : {xs : List Labelled} → EndsBelow (2 ^ k) xs → (a b : ℕ) → Linked a b (map (λ x. x .link) xs) →
-      walk most (forestOf most xs) a .root ≡ walk most (forestOf most xs) b .root
+      walk limit (forestOf limit xs) a .root ≡ walk limit (forestOf limit xs) b .root
   unfolding forestOf
   linked-root empty a b l = absurd (nothing-linked l)
   linked-root (also p ends) a b l = united-linked (grown ends) (united (grown ends) _ p) (linked-root ends) a b l
@@ -176,57 +176,57 @@ module _ {k most : ℕ} (enough : k ≤ most) where
   module _ {xs : List Labelled} (ends : EndsBelow (2 ^ k) xs) where
     -- two cells have one root exactly when links chain them
     pub same-root : (a b : ℕ) →
-        (walk most (forestOf most xs) a .root ≡ walk most (forestOf most xs) b .root) ↔ Chained (map (λ x. x .link) xs) a b
+        (walk limit (forestOf limit xs) a .root ≡ walk limit (forestOf limit xs) b .root) ↔ Chained (map (λ x. x .link) xs) a b
     same-root a b = (
       λ e. chained-trans (rw e at (root-chained ends a)) (chained-sym (root-chained ends b)),
-      chained-agree (λ c. walk most (forestOf most xs) c .root) (linked-root ends),
+      chained-agree (λ c. walk limit (forestOf limit xs) c .root) (linked-root ends),
     )
 
     -- a walk ends at a root
     pub walk-ends : (c : ℕ) →
-        forestOf most xs .parent (walk most (forestOf most xs) c .root) ≡ walk most (forestOf most xs) c .root
+        forestOf limit xs .parent (walk limit (forestOf limit xs) c .root) ≡ walk limit (forestOf limit xs) c .root
     walk-ends c = way-ends (walk-way (grown ends) c)
 
     -- it takes at most k steps
-    pub walk-short : (c : ℕ) → walk most (forestOf most xs) c .steps ≤ k
+    pub walk-short : (c : ℕ) → walk limit (forestOf limit xs) c .steps ≤ k
     walk-short c = way-short (grown ends .doubles) (walk-way (grown ends) c)
 
     -- the tree is as large as its steps ask
     pub walk-size : (c : ℕ) →
-        2 ^ (walk most (forestOf most xs) c .steps) ≤ forestOf most xs .size (walk most (forestOf most xs) c .root)
+        2 ^ (walk limit (forestOf limit xs) c .steps) ≤ forestOf limit xs .size (walk limit (forestOf limit xs) c .root)
     walk-size c = way-size (grown ends .doubles) (walk-way (grown ends) c)
 
     -- it makes no difference how many steps a walk may take, if k are among them
-    pub walk-agree : (m n c : ℕ) → k ≤ m → k ≤ n → walk m (forestOf most xs) c ≡ walk n (forestOf most xs) c
+    pub walk-agree : (m n c : ℕ) → k ≤ m → k ≤ n → walk m (forestOf limit xs) c ≡ walk n (forestOf limit xs) c
     unfolding walk
     walk-agree m n c km kn = found m km ∙ sym (found n kn)
       where
-        found : (m : ℕ) → k ≤ m → walk m (forestOf most xs) c ≡ walk most (forestOf most xs) c
+        found : (m : ℕ) → k ≤ m → walk m (forestOf limit xs) c ≡ walk limit (forestOf limit xs) c
         found m km = way-climb (walk-way (grown ends) c) m (le-trans (walk-short c) km)
 
     -- each step doubles the size
-    pub doubling : (c : ℕ) → ¬ (forestOf most xs .parent c ≡ c) →
-        2 * forestOf most xs .size c ≤ forestOf most xs .size (forestOf most xs .parent c)
+    pub doubling : (c : ℕ) → ¬ (forestOf limit xs .parent c ≡ c) →
+        2 * forestOf limit xs .size c ≤ forestOf limit xs .size (forestOf limit xs .parent c)
     doubling = grown ends .doubles .doubling
 
     -- the size of every cell, a root or not, is from 1 to 2 ^ k
-    pub size-positive : (c : ℕ) → 1 ≤ forestOf most xs .size c
+    pub size-positive : (c : ℕ) → 1 ≤ forestOf limit xs .size c
     size-positive = grown ends .doubles .positive
 
-    pub size-bounded : (c : ℕ) → forestOf most xs .size c ≤ 2 ^ k
+    pub size-bounded : (c : ℕ) → forestOf limit xs .size c ≤ 2 ^ k
     size-bounded = grown ends .doubles .bounded
 
-    pub parent-below : (c : ℕ) → c < 2 ^ k → forestOf most xs .parent c < 2 ^ k
+    pub parent-below : (c : ℕ) → c < 2 ^ k → forestOf limit xs .parent c < 2 ^ k
     parent-below = grown ends .inside
 
 -- a link whose ends have one root changes nothing, so one of a cell with itself does not
-pub unite-one-root : (most : ℕ) (f : Forest) (x : Labelled) →
-    rootsOf most f x .one ≡ rootsOf most f x .other → unite most f x ≡ f
+pub unite-one-root : (limit : ℕ) (f : Forest) (x : Labelled) →
+    rootsOf limit f x .one ≡ rootsOf limit f x .other → unite limit f x ≡ f
 unfolding unite
-unite-one-root most f x e = rw (eq-eqb _ _ e)
+unite-one-root limit f x e = rw (eq-eqb _ _ e)
 
-pub unite-self : (most : ℕ) (f : Forest) (x : Labelled) → x .link .one ≡ x .link .other → unite most f x ≡ f
-unite-self most f x e = unite-one-root most f x (ap (λ c. walk most f c .root) e)
+pub unite-self : (limit : ℕ) (f : Forest) (x : Labelled) → x .link .one ≡ x .link .other → unite limit f x ≡ f
+unite-self limit f x e = unite-one-root limit f x (ap (λ c. walk limit f c .root) e)
 
 -- it makes no difference to the forest how many steps walks may take, if k are among them
 unite-agree : (m n : ℕ) (f : Forest) (x : Labelled) → ((c : ℕ) → walk m f c ≡ walk n f c) → unite m f x ≡ unite n f x

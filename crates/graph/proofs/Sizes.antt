@@ -10,7 +10,7 @@ use native.Mathlib.Decide.{ℕ-discrete}
 use native.Mathlib.Nat.{le-refl, le-trans, one-le-pow}
 use lib.Dec.{eqb}
 use borrow.Author.Tests.{eq-eqb, ne-eqb}
-use Rattle.graph.specs.Forest.{Forest, fresh, put, hung}
+use Rattle.graph.specs.Forest.{Forest, fresh, put, merged}
 use Rattle.graph.proofs.Walks.{Doubles, put-here, put-other, put-cases}
 
 -- the sum of g below n
@@ -75,18 +75,18 @@ pub record Root (k : ℕ) (f : Forest) (c : ℕ) : Type 0 where
   pub below : c < 2 ^ k
 
 -- of two roots, child may hang under top
-pub record Hangs (k : ℕ) (f : Forest) (child top : ℕ) : Type 0 where
+pub record Merges (k : ℕ) (f : Forest) (child top : ℕ) : Type 0 where
   pub under : Root k f child
   pub over : Root k f top
   pub apart : ¬ (child ≡ top)
   pub lighter : f .size child ≤ f .size top
 
-module _ {k : ℕ} {f : Forest} {child top : ℕ} (g : Grown k f) (h : Hangs k f child top) (label : ℕ) where
+module _ {k : ℕ} {f : Forest} {child top : ℕ} (g : Grown k f) (h : Merges k f child top) (label : ℕ) where
   abbrev both : ℕ
   both = f .size top + f .size child
 
   abbrev new : Forest
-  new = hung f label child top
+  new = merged f label child top
 
   size-top : (c : ℕ) → c ≡ top → new .size c ≡ both
   size-top = put-here top both (f .size)
@@ -97,13 +97,13 @@ module _ {k : ℕ} {f : Forest} {child top : ℕ} (g : Grown k f) (h : Hangs k f
   size-grows : (c : ℕ) → f .size c ≤ new .size c
   size-grows c = put-cases (λ s. f .size c ≤ s) top both (f .size) c (λ e. omega (arith, ap (f .size) e)) (λ _. le-refl _)
 
-  hung-doubling : (c : ℕ) → ¬ (new .parent c ≡ c) → 2 * new .size c ≤ new .size (new .parent c)
-  hung-doubling c moves = go (ℕ-discrete c child)
+  merged-doubling : (c : ℕ) → ¬ (new .parent c ≡ c) → 2 * new .size c ≤ new .size (new .parent c)
+  merged-doubling c moves = go (ℕ-discrete c child)
     where
       go : Dec (c ≡ child) → 2 * new .size c ≤ new .size (new .parent c)
       go (yes e) =
           rw (put-here child top (f .parent) c e, e)
-          (omega (arith, size-top top refl, size-other child (h .apart), h .lighter))
+          (omega (arith, size-top top refl, size-other child (h .different), h .lighter))
       go (no n) =
           let same : new .parent c ≡ f .parent c = put-other child top (f .parent) c n in
           let moved : ¬ (f .parent c ≡ c) = λ q. moves (same ∙ q) in
@@ -118,19 +118,19 @@ module _ {k : ℕ} {f : Forest} {child top : ℕ} (g : Grown k f) (h : Hangs k f
   root-sizes c = go (ℕ-discrete c child) (ℕ-discrete c top)
     where
       go : Dec (c ≡ child) → Dec (c ≡ top) → rootSize new c ≡ moved c
-      go (yes e) _ = simp (eq-eqb c child e, ne-eqb top c (λ q. h .apart (sym (q ∙ e))))
+      go (yes e) _ = simp (eq-eqb c child e, ne-eqb top c (λ q. h .different (sym (q ∙ e))))
       go (no n) (yes e) = simp (ne-eqb c child n, eq-eqb c top e, eq-eqb (f .parent c) c (rw e (h .over .stays)))
       go (no n) (no m) = simp (ne-eqb c child n, ne-eqb c top m)
 
-  hung-whole : total (rootSize new) (2 ^ k) ≡ 2 ^ k
-  hung-whole =
+  merged-whole : total (rootSize new) (2 ^ k) ≡ 2 ^ k
+  merged-whole =
       omega (
         arith,
         g .whole,
         total-same (rootSize new) moved (2 ^ k) (λ c _. root-sizes c),
         total-put (put top both (rootSize f)) child 0 (2 ^ k) (h .under .below),
         total-put (rootSize f) top both (2 ^ k) (h .over .below),
-        put-other top both (rootSize f) child (h .apart),
+        put-other top both (rootSize f) child (h .different),
         root-size f child (h .under .stays),
         root-size f top (h .over .stays),
       )
@@ -139,22 +139,22 @@ module _ {k : ℕ} {f : Forest} {child top : ℕ} (g : Grown k f) (h : Hangs k f
   both-bounded =
       omega (
         arith,
-        hung-whole,
+        merged-whole,
         part-of-total (rootSize new) top (2 ^ k) (h .over .below),
         root-sizes top,
-        put-other child 0 (put top both (rootSize f)) top (λ q. h .apart (sym q)),
+        put-other child 0 (put top both (rootSize f)) top (λ q. h .different (sym q)),
         put-here top both (rootSize f) top refl,
       )
 
-  pub hung-grown : Grown k new
-  hung-grown =
+  pub merged-grown : Grown k new
+  merged-grown =
       record {
         doubles =
             record {
-              doubling = hung-doubling;
+              doubling = merged-doubling;
               positive = λ c. le-trans (g .doubles .positive c) (size-grows c);
               bounded = λ c. put-cases (λ s. s ≤ 2 ^ k) top both (f .size) c (λ _. both-bounded) (λ _. g .doubles .bounded c);
             };
         inside = λ c l. put-cases (λ p. p < 2 ^ k) child top (f .parent) c (λ _. h .over .below) (λ _. g .inside c l);
-        whole = hung-whole;
+        whole = merged-whole;
       }

@@ -31,13 +31,13 @@ way-keeps Q step (arrived e) q = q
 way-keeps Q step (onwards e n way) q = way-keeps Q step way (rw e at (step _ q))
 
 -- with enough steps allowed, it is the walk that `climb` finds
-pub way-climb : {up : ℕ → ℕ} {c : ℕ} {w : Walk} → Way up c w → (most : ℕ) → w .steps ≤ most → climb up most c ≡ w
+pub way-climb : {up : ℕ → ℕ} {c : ℕ} {w : Walk} → Way up c w → (limit : ℕ) → w .steps ≤ limit → climb up limit c ≡ w
 unfolding climb
 way-climb (arrived e) zero le = refl
-way-climb {up} {c} (arrived e) (suc most) le = rw (eq-eqb (up c) c e)
+way-climb {up} {c} (arrived e) (suc limit) le = rw (eq-eqb (up c) c e)
 way-climb (onwards e n way) zero le = absurd (not-suc-le-zero le)
-way-climb {up} {c} (onwards {next} e n way) (suc most) le =
-    rw (e, ne-eqb next c n) (ap onward (way-climb way most (le-of-suc-le-suc le)))
+way-climb {up} {c} (onwards {next} e n way) (suc limit) le =
+    rw (e, ne-eqb next c n) (ap onward (way-climb way limit (le-of-suc-le-suc le)))
 
 pow-le : (a b : ℕ) → 2 ^ a ≤ 2 ^ b → a ≤ b
 pow-le a b le = go (decLe a b)
@@ -67,7 +67,7 @@ module _ {k : ℕ} {up size : ℕ → ℕ} (d : Doubles k up size) where
   way-short way = pow-le _ k (le-trans (way-size way) (d .bounded _))
 
   -- from a cell of size 2 ^ j or more it is at most k - j steps
-  climb-from : (most j c : ℕ) → 2 ^ j ≤ size c → k ≤ j + most → Way up c (climb up most c)
+  climb-from : (limit j c : ℕ) → 2 ^ j ≤ size c → k ≤ j + limit → Way up c (climb up limit c)
   unfolding climb
   climb-from zero j c big le = arrived (go (ℕ-discrete (up c) c))
     where
@@ -76,15 +76,15 @@ module _ {k : ℕ} {up size : ℕ → ℕ} (d : Doubles k up size) where
       go (no n) =
           let small : 2 ^ k ≤ 2 ^ j = pow-le-pow-right (omega arith) (omega arith) in
           absurd (omega (arith, d .doubling c n, d .bounded (up c), one-le-pow j 2 (omega arith)))
-  climb-from (suc most) j c big le = go (ℕ-discrete (up c) c) (λ big. climb-from most (suc j) (up c) big (omega arith))
+  climb-from (suc limit) j c big le = go (ℕ-discrete (up c) c) (λ big. climb-from limit (suc j) (up c) big (omega arith))
     where
-      go : Dec (up c ≡ c) → (2 ^ suc j ≤ size (up c) → Way up (up c) (climb up most (up c))) →
-          Way up c (climb up (suc most) c)
+      go : Dec (up c ≡ c) → (2 ^ suc j ≤ size (up c) → Way up (up c) (climb up limit (up c))) →
+          Way up c (climb up (suc limit) c)
       go (yes e) on = rw (eq-eqb (up c) c e) (arrived e)
       go (no n) on = rw (ne-eqb (up c) c n) (onwards refl n (on (omega (arith, d .doubling c n, pow-suc 2 j))))
 
-  pub climb-way : (most c : ℕ) → k ≤ most → Way up c (climb up most c)
-  climb-way most c le = climb-from most 0 c (d .positive c) (omega arith)
+  pub climb-way : (limit c : ℕ) → k ≤ limit → Way up c (climb up limit c)
+  climb-way limit c le = climb-from limit 0 c (d .positive c) (omega arith)
 
 pub put-here : (c v : ℕ) (f : ℕ → ℕ) (x : ℕ) → x ≡ c → put c v f x ≡ v
 put-here c v f x e = rw (eq-eqb x c e)

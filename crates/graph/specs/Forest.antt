@@ -31,14 +31,14 @@ onward w = record { root = w .root; steps = suc (w .steps) }
 -- from c by `up`, until a cell that stays or for `most` steps
 unfoldable pub climb : (ℕ → ℕ) → ℕ → ℕ → Walk
 climb up zero c = record { root = c; steps = 0 }
-climb up (suc most) c =
-    let rest : Walk = onward (climb up most (up c)) in
+climb up (suc limit) c =
+    let rest : Walk = onward (climb up limit (up c)) in
     cond (eqb (up c) c) (record { root = c; steps = 0 }) rest
 
 -- a walk without a cut
 unfoldable pub walk : ℕ → Forest → ℕ → Walk
 unfolding climb
-walk most f c = climb (f .parent) most c
+walk limit f c = climb (f .parent) limit c
 
 -- the parent at a cut: a step whose label is below the cut is not taken
 abbrev pub parentAt : Forest → ℕ → ℕ → ℕ
@@ -47,7 +47,7 @@ parentAt f cut c = cond (ltb (f .label c) cut) c (f .parent c)
 -- a walk at a cut
 unfoldable pub walkAt : ℕ → Forest → ℕ → ℕ → Walk
 unfolding climb
-walkAt most f cut c = climb (parentAt f cut) most c
+walkAt limit f cut c = climb (parentAt f cut) limit c
 
 -- the function that gives v at c
 abbrev pub put : ℕ → ℕ → (ℕ → ℕ) → ℕ → ℕ
@@ -58,8 +58,8 @@ abbrev pub goesUnder : (ℕ → ℕ) → ℕ → ℕ → Bool
 goesUnder size a b = ltb (size a) (size b) || (eqb (size a) (size b) && ltb b a)
 
 -- the root `child` made a child of the root `top`, by a step with the label
-abbrev pub hung : Forest → ℕ → ℕ → ℕ → Forest
-hung f label child top =
+abbrev pub merged : Forest → ℕ → ℕ → ℕ → Forest
+merged f label child top =
     record {
       parent = put child top (f .parent);
       size = put top (f .size top + f .size child) (f .size);
@@ -68,7 +68,7 @@ hung f label child top =
 
 -- the trees of two roots made one, unless they are one already
 abbrev pub joinRoots : Forest → ℕ → ℕ → ℕ → Forest
-joinRoots f label a b = cond (eqb a b) f (cond (goesUnder (f .size) a b) (hung f label a b) (hung f label b a))
+joinRoots f label a b = cond (eqb a b) f (cond (goesUnder (f .size) a b) (merged f label a b) (merged f label b a))
 
 -- a link, and the label of the step that it may make
 pub record Labelled : Type 0 where
@@ -78,13 +78,13 @@ pub record Labelled : Type 0 where
 -- one link more
 unfoldable pub unite : ℕ → Forest → Labelled → Forest
 unfolding walk
-unite most f x = joinRoots f (x .label) (walk most f (x .link .one) .root) (walk most f (x .link .other) .root)
+unite limit f x = joinRoots f (x .label) (walk limit f (x .link .one) .root) (walk limit f (x .link .other) .root)
 
 -- the forest of a list of links, of which the LAST stands at the front
 unfoldable pub forestOf : ℕ → List Labelled → Forest
 unfolding unite
-forestOf most [] = fresh
-forestOf most (x ∷ xs) = unite most (forestOf most xs) x
+forestOf limit [] = fresh
+forestOf limit (x ∷ xs) = unite limit (forestOf limit xs) x
 
 -- the links whose label is not below the cut
 unfoldable pub atLeast : ℕ → List Labelled → List Labelled

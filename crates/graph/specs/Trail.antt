@@ -78,12 +78,12 @@ descend ls b (suc k) none = []
 descend ls b (suc k) (some a) = a ∷ descend ls b k (nextCell ls b k a ls)
 
 -- the best trail from a to b, by the number of its links
-unfoldable pub trailBy : List Link → ℕ → ℕ → Option ℕ → List ℕ
+unfoldable pub trailOfLinks : List Link → ℕ → ℕ → Option ℕ → List ℕ
 unfolding descend
-trailBy ls a b none = []
-trailBy ls a b (some k) = descend ls b k (some a)
+trailOfLinks ls a b none = []
+trailOfLinks ls a b (some k) = descend ls b k (some a)
 
 -- the best trail from a to b; the empty list where there is none
 unfoldable pub trailOf : List Link → ℕ → ℕ → List ℕ
-unfolding trailBy fewestLinks
-trailOf ls a b = trailBy ls a b (fewestLinks ls a b)
+unfolding trailOfLinks fewestLinks
+trailOf ls a b = trailOfLinks ls a b (fewestLinks ls a b)

@@ -2,8 +2,8 @@
 // then a length. Every call promises what its definition says, for every input. Calls that change a book, and joined, are lent its
 // fields where they stand, so that no copy of the book is made; include/kerb.h and rust/kerb put them together again, as calls
 // over one book.
-use book::lent;
-use book::lent::LentAnswer;
+use book::fields;
+use book::fields::FieldsAnswer;
 use book_joined::JoinedAnswer;
 use file::Reading;
 use listing::Listed;
@@ -15,7 +15,7 @@ ghost use mathlib.Core.Path.{_≡_};
 ghost use lib.ListN.{length};
 ghost use Rattle.book_state.specs.Order.{neverOpened, bookOf};
 ghost use Rattle.book_joined.specs.Joined.{joinedOf};
-ghost use Rattle.book.specs.Calls.{GivesLent, openingOf, linkOf, clockOf};
+ghost use Rattle.book.specs.Calls.{GivesFields, openingOf, linkOf, clockOf};
 ghost use Rattle.chain.specs.Chain.{chainOf, GivesChain};
 ghost use Rattle.file.specs.Format.{readOf, writeNumber, outputOf};
 ghost use Rattle.listing.specs.Listing.{listingOf, Lists};
@@ -41,10 +41,10 @@ pub extern "C" fn kerb_lent_opening(
     backward_label: &mut [u8; 1024],
     log: &mut [u16],
     s: Settings,
-) -> LentAnswer
-    ensures { λ r. ⌜ GivesLent (openingOf (bookOf clock mounting (now (counts .entry)) (now («forward_parent» .entry)) (now («forward_size» .entry)) (now («backward_parent» .entry)) (now («backward_size» .entry)) (now («backward_label» .entry))) (now (log .entry)) s) r (now (counts .exit)) (now («forward_parent» .exit)) (now («forward_size» .exit)) (now («backward_parent» .exit)) (now («backward_size» .exit)) (now («backward_label» .exit)) (now (log .exit)) ⌝ }
+) -> FieldsAnswer
+    ensures { λ r. ⌜ GivesFields (openingOf (bookOf clock mounting (now (counts .entry)) (now («forward_parent» .entry)) (now («forward_size» .entry)) (now («backward_parent» .entry)) (now («backward_size» .entry)) (now («backward_label» .entry))) (now (log .entry)) s) r (now (counts .exit)) (now («forward_parent» .exit)) (now («forward_size» .exit)) (now («backward_parent» .exit)) (now («backward_size» .exit)) (now («backward_label» .exit)) (now (log .exit)) ⌝ }
 {
-    lent::opening(
+    fields::opening(
         clock,
         mounting,
         counts,
@@ -73,10 +73,10 @@ pub extern "C" fn kerb_lent_link(
     tick: u32,
     one: u16,
     other: u16,
-) -> LentAnswer
-    ensures { λ r. ⌜ GivesLent (linkOf (bookOf clock mounting (now (counts .entry)) (now («forward_parent» .entry)) (now («forward_size» .entry)) (now («backward_parent» .entry)) (now («backward_size» .entry)) (now («backward_label» .entry))) (now (log .entry)) tick one other) r (now (counts .exit)) (now («forward_parent» .exit)) (now («forward_size» .exit)) (now («backward_parent» .exit)) (now («backward_size» .exit)) (now («backward_label» .exit)) (now (log .exit)) ⌝ }
+) -> FieldsAnswer
+    ensures { λ r. ⌜ GivesFields (linkOf (bookOf clock mounting (now (counts .entry)) (now («forward_parent» .entry)) (now («forward_size» .entry)) (now («backward_parent» .entry)) (now («backward_size» .entry)) (now («backward_label» .entry))) (now (log .entry)) tick one other) r (now (counts .exit)) (now («forward_parent» .exit)) (now («forward_size» .exit)) (now («backward_parent» .exit)) (now («backward_size» .exit)) (now («backward_label» .exit)) (now (log .exit)) ⌝ }
 {
-    lent::link(
+    fields::link(
         clock,
         mounting,
         counts,
@@ -105,10 +105,10 @@ pub extern "C" fn kerb_lent_clock(
     backward_label: &mut [u8; 1024],
     log: &[u16],
     tick: u32,
-) -> LentAnswer
-    ensures { λ r. ⌜ GivesLent (clockOf (bookOf clock mounting (now (counts .entry)) (now («forward_parent» .entry)) (now («forward_size» .entry)) (now («backward_parent» .entry)) (now («backward_size» .entry)) (now («backward_label» .entry))) (now (log .entry)) tick) r (now (counts .exit)) (now («forward_parent» .exit)) (now («forward_size» .exit)) (now («backward_parent» .exit)) (now («backward_size» .exit)) (now («backward_label» .exit)) (now (log .entry)) ⌝ }
+) -> FieldsAnswer
+    ensures { λ r. ⌜ GivesFields (clockOf (bookOf clock mounting (now (counts .entry)) (now («forward_parent» .entry)) (now («forward_size» .entry)) (now («backward_parent» .entry)) (now («backward_size» .entry)) (now («backward_label» .entry))) (now (log .entry)) tick) r (now (counts .exit)) (now («forward_parent» .exit)) (now («forward_size» .exit)) (now («backward_parent» .exit)) (now («backward_size» .exit)) (now («backward_label» .exit)) (now (log .entry)) ⌝ }
 {
-    lent::clock(
+    fields::clock(
         clock,
         mounting,
         counts,
@@ -138,7 +138,7 @@ pub extern "C" fn kerb_lent_joined<'a>(
 ) -> JoinedAnswer
     ensures { λ r. ⌜ r ≡ joinedOf (bookOf clock mounting (now (counts .entry)) (now («forward_parent» .entry)) (now («forward_size» .entry)) (now («backward_parent» .entry)) (now («backward_size» .entry)) (now («backward_label» .entry))) one other ⌝ }
 {
-    book_joined::lent(
+    book_joined::over_fields(
         clock,
         mounting,
         counts,

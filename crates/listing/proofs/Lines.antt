@@ -18,7 +18,7 @@ use Rattle.window_groups.specs.declared.Groups.{Groups}
 use Rattle.window_groups.specs.Groups.{groupOf, groupsOf}
 use Rattle.window_groups.proofs.Cells.{group-few}
 use Rattle.window_groups.proofs.LeastHold.{hold-n}
-use Rattle.listing.specs.Lines.{leads, groupLineIf, linesOf, groupLines, toldLine, toldLines, Small}
+use Rattle.listing.specs.Lines.{leads, groupLineIf, linesOf, groupLines, toldLine, toldLines, FewDigits}
 use Rattle.listing.proofs.Printed.{group-line-short}
 
 -- ---- one after the other
@@ -44,7 +44,7 @@ lines-agree f g i (suc n) e = rw (lines-agree f g (suc i) n (λ c h. e c (omega 
 
 -- ---- a line is short
 
-pub told-short : (firsts : List ℕ) {counts holds : List ℕ} → Small counts holds → (c : ℕ) → c < cells → length (toldLine firsts counts holds c) ≤ 19
+pub told-short : (firsts : List ℕ) {counts holds : List ℕ} → FewDigits counts holds → (c : ℕ) → c < cells → length (toldLine firsts counts holds c) ≤ 19
 unfolding groupLineIf
 told-short firsts {counts} {holds} small c h = go (leads c (getD firsts c 0) (getD counts c 0))
   where
@@ -58,7 +58,7 @@ module _ (b : Book) (log : List ℕ) {g : Groups} (is : g ≡ groupsOf b log) wh
   abbrev xs : List Labelled
   xs = windowLinks b log
 
-  pub groups-small : b .clock .n ≤ 16 → Small (g .count) (g .hold)
+  pub groups-small : b .clock .n ≤ 16 → FewDigits (g .count) (g .hold)
   unfolding groupsOf
   groups-small n =
       rw is record {

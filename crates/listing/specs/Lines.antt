@@ -69,6 +69,6 @@ abbrev pub toldLines : List ℕ → List ℕ → List ℕ → List ℕ
 toldLines firsts counts holds = linesOf (toldLine firsts counts holds) (countFrom 0 cells)
 
 -- numbers with few digits
-pub record Small (counts holds : List ℕ) : Type 0 where
+pub record FewDigits (counts holds : List ℕ) : Type 0 where
   pub count-most : (c : ℕ) → c < cells → getD counts c 0 ≤ 1024
   pub hold-most : (c : ℕ) → c < cells → getD holds c 0 ≤ 16

@@ -10,7 +10,7 @@ use lib.ListN.{length, getD}
 use Rattle.settings.specs.Settings.{takenNumber}
 use Rattle.forest.specs.Arrays.{parentIn, sizeIn, held}
 use Rattle.book_state.specs.Arrays.{cells}
-use Rattle.book_state.specs.Log.{halfOf, spotOf, startOf, linksFrom}
+use Rattle.book_state.specs.Log.{halfOf, spotOf, startOf, linksAt}
 use Rattle.book_state.specs.Numbers.{has, logPlaces}
 use Rattle.promises.specs.History.{Stored, History, clockIn, openSlideIn, chunkIn, slideLinks, howMany, linksOf}
 use Rattle.promises.specs.Panel.{State}
@@ -40,7 +40,7 @@ spotIn h t = spotOf (halfOf (t / h .settings .n)) (t % h .settings .n)
 -- the links of a slide stand in the log, in order of arrival
 pub record Kept (h : History) (s : State) (t : ℕ) : Type 0 where
   pub count : getD (s .book .counts) (spotIn h t) 0 ≡ howMany (slideLinks t (h .links))
-  pub links : linksFrom (s .log) (startOf (spotIn h t)) (howMany (slideLinks t (h .links))) ≡ reverse (linksOf (slideLinks t (h .links)))
+  pub links : linksAt (s .log) (startOf (spotIn h t)) (howMany (slideLinks t (h .links))) ≡ reverse (linksOf (slideLinks t (h .links)))
 
 pub record Agrees (h : History) (s : State) : Type 0 where
   pub sensible : Sensible h

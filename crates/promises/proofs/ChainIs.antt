@@ -28,12 +28,12 @@ use Rattle.slides.specs.Clock.{notBefore, slideOf}
 use Rattle.book_state.specs.Arrays.{cells}
 use Rattle.book_state.specs.Numbers.{firstOf, unless, has, areCells}
 use Rattle.book_joined.specs.Joined.{joinedOf}
-use Rattle.window.specs.Window.{windowLinks, linksFrom}
+use Rattle.window.specs.Window.{windowLinks, linksFromLabel}
 use Rattle.window.proofs.Highest.{chained-highest, highest-chained, highest-most}
-use Rattle.chain.specs.Chain.{ChainOutcome, chainPlaces, labelOf, chainCells, chainNumber, chainBy, chainOf}
-use Rattle.promises.specs.History.{clock, History, clockIn, openSlideIn, windowOf, linksSince, numberIn, added, addedBy}
+use Rattle.chain.specs.Chain.{ChainOutcome, chainPlaces, labelOf, chainCells, chainNumber, chainByNumber, chainOf}
+use Rattle.promises.specs.History.{clock, History, clockIn, openSlideIn, windowOf, linksSince, numberIn, added, addedByNumber}
 use Rattle.promises.specs.Panel.{ours, State, stateOf, gives, givesChain}
-use Rattle.promises.specs.Demands.{Handed, Apart, Itself, Answers, Chain}
+use Rattle.promises.specs.Demands.{ChainGiven, DifferentCells, Itself, Answers, Chain}
 use Rattle.promises.proofs.Agrees.{Agrees}
 use Rattle.promises.proofs.Lists.{same-test}
 use Rattle.promises.proofs.Numbers.{first-last, first-under}
@@ -69,15 +69,15 @@ module _ {h : History} {s : State} (agrees : Agrees h s) (one other : ℕ) where
   label-suc : 0 < label → label ≡ suc (label - 1)
   label-suc l = omega arith
 
-  label-held : 0 < label → Chained (linksFrom label held) one other
+  label-held : 0 < label → Chained (linksFromLabel label held) one other
   label-held l = highest-chained held one other (suc (s .book .clock .n)) label l (le-refl label)
 
   -- the links from it on are those of the window as many closings later, less one
-  held-closed : 0 < label → Relinks (linksFrom label held) (closed h (label - 1))
-  held-closed l = subst⁻¹ (λ i. Relinks (linksFrom i held) (closed h (label - 1))) (label-suc l) (book-window agrees (label - 1))
+  held-closed : 0 < label → Relinks (linksFromLabel label held) (closed h (label - 1))
+  held-closed l = subst⁻¹ (λ i. Relinks (linksFromLabel i held) (closed h (label - 1))) (label-suc l) (book-window agrees (label - 1))
 
-  closed-held : 0 < label → Relinks (closed h (label - 1)) (linksFrom label held)
-  closed-held l = subst⁻¹ (λ i. Relinks (closed h (label - 1)) (linksFrom i held)) (label-suc l) (window-book agrees (label - 1))
+  closed-held : 0 < label → Relinks (closed h (label - 1)) (linksFromLabel label held)
+  closed-held l = subst⁻¹ (λ i. Relinks (closed h (label - 1)) (linksFromLabel i held)) (label-suc l) (window-book agrees (label - 1))
 
   label-closed : (c : ℕ) → c < label → Chained (closed h c) one other
   label-closed c l =
@@ -101,21 +101,21 @@ module _ {h : History} {s : State} (agrees : Agrees h s) (one other : ℕ) where
   label-itself e =
       omega (arith, n-is, highest-most held one other (suc (s .book .clock .n)), closed-label (h .settings .n) (le-refl _) (same e))
 
-  module _ (apart : one ≡ other → ⊥) where
+  module _ (different : one ≡ other → ⊥) where
     -- two different cells stay chained for fewer closings than the label says
     closed-is : (c : ℕ) → Chained (closed h c) one other ↔ (c < label)
     closed-is c = (λ x. go (decLe c (h .settings .n)) x, label-closed c)
       where
         go : Dec (c ≤ h .settings .n) → Chained (closed h c) one other → c < label
         go (yes le) x = closed-label c le x
-        go (no d) x = absurd (apart (none-left c (omega arith) x))
+        go (no d) x = absurd (different (none-left c (omega arith) x))
 
     label-most : label ≤ h .settings .n
     label-most = go (decLe label (h .settings .n))
       where
         go : Dec (label ≤ h .settings .n) → label ≤ h .settings .n
         go (yes le) = le
-        go (no d) = absurd (apart (none-left (h .settings .n) (le-refl _) (label-closed (h .settings .n) (omega arith))))
+        go (no d) = absurd (different (none-left (h .settings .n) (le-refl _) (label-closed (h .settings .n) (omega arith))))
 
     -- no window starts before slide 0
     label-least : 0 < label → h .settings .n ≤ openSlideIn h + label
@@ -134,8 +134,8 @@ module _ {h : History} {s : State} (agrees : Agrees h s) (one other : ℕ) where
 
   -- the last window that chains the two starts with slide L
   since-newest : (one ≡ other → ⊥) → 0 < label → closed h (label - 1) ≡ linksSince h newest
-  since-newest apart l =
-      let from : h .settings .n ≤ openSlideIn h + label = label-least apart l in
+  since-newest different l =
+      let from : h .settings .n ≤ openSlideIn h + label = label-least different l in
       closed-since (agrees .sensible) (label - 1) newest (λ t le. (λ e. omega arith, λ e. omega arith))
 
   newest-is : 0 < label → newest + h .settings .n ≡ openSlideIn h + label
@@ -143,14 +143,14 @@ module _ {h : History} {s : State} (agrees : Agrees h s) (one other : ℕ) where
     where
       go : Dec (one ≡ other) → newest + h .settings .n ≡ openSlideIn h + label
       go (yes e) = omega (arith, label-itself e)
-      go (no apart) = omega (arith, label-least apart l)
+      go (no different) = omega (arith, label-least different l)
 
   path-best : 0 < label → Best (linksSince h newest) one other path
   path-best l = go (ℕ-discrete one other)
     where
       go : Dec (one ≡ other) → Best (linksSince h newest) one other path
       go (yes e) = rw (best-trailOf (best-same e)) (best-same e)
-      go (no apart) = rw (← (since-newest apart l)) (best-relink (held-closed l) (closed-held l) (trailOf-best (label-held l)))
+      go (no different) = rw (← (since-newest different l)) (best-relink (held-closed l) (closed-held l) (trailOf-best (label-held l)))
 
   -- ---- the number
 
@@ -176,8 +176,8 @@ module _ {h : History} {s : State} (agrees : Agrees h s) (one other : ℕ) where
         (λ l. passes 8 [] (le-leb _ _ (chain-fits (ltb-true _ _ (and-eq-true-iff (ltb one cells) _ .0 are .0)) (ltb-true 0 label l)))))))
 
     chain-gives : givesChain ours s chain one other .answer .number ≡ chainNumber (s .book) (s .log) chain one other
-    unfolding chainOf chainBy
-    chain-gives = itself (λ k. chainBy k (s .book) (s .log) chain one other .answer .number) refl (λ k. refl) _
+    unfolding chainOf chainByNumber
+    chain-gives = itself (λ k. chainByNumber k (s .book) (s .log) chain one other .answer .number) refl (λ k. refl) _
 
     abbrev given : ChainOutcome
     given =
@@ -187,12 +187,12 @@ module _ {h : History} {s : State} (agrees : Agrees h s) (one other : ℕ) where
         }
 
     chain-done : givesChain ours s chain one other .answer .number ≡ 0 → givesChain ours s chain one other ≡ given
-    unfolding chainOf chainBy
-    chain-done e = ap (λ k. chainBy k (s .book) (s .log) chain one other) (sym chain-gives ∙ e) ∙ rw (agrees .clock)
+    unfolding chainOf chainByNumber
+    chain-done e = ap (λ k. chainByNumber k (s .book) (s .log) chain one other) (sym chain-gives ∙ e) ∙ rw (agrees .clock)
 
     -- ---- where it gives 0
 
-    given-handed : 0 < label → Handed h chain one other given
+    given-handed : 0 < label → ChainGiven h chain one other given
     given-handed l =
         record {
           best = rw front (path-best l);
@@ -215,20 +215,20 @@ module _ {h : History} {s : State} (agrees : Agrees h s) (one other : ℕ) where
     -- c closings later, where a tick reaches that slide
     later-joined : areCells one other ≡ true → (c tick : ℕ) → slideOf (clockIn h) tick ≡ openSlideIn h + c → notBefore (clockIn h) tick ≡ true →
         (joinedOf (gives ours s (clock tick) .book) one other .yes ≡ true) ↔ Chained (closed h c) one other
-    unfolding numberIn addedBy added
+    unfolding numberIn addedByNumber added
     later-joined are c tick e later =
         rw (← e, ← (slide-then agrees tick later))
-        (joined-window (subst (λ b. Agrees (addedBy (unless b 4) h (clock tick)) (stateOf (gives ours s (clock tick)))) later (step agrees (clock tick))) one other are)
+        (joined-window (subst (λ b. Agrees (addedByNumber (unless b 4) h (clock tick)) (stateOf (gives ours s (clock tick)))) later (step agrees (clock tick))) one other are)
 
-    given-apart : areCells one other ≡ true → 0 < label → (one ≡ other → ⊥) → Apart ours s h one other (given .answer)
-    given-apart are l apart =
+    given-apart : areCells one other ≡ true → 0 < label → (one ≡ other → ⊥) → DifferentCells ours s h one other (given .answer)
+    given-apart are l different =
         record {
-          chained = rw (← (since-newest apart l)) (label-closed (label - 1) (omega arith));
+          chained = rw (← (since-newest different l)) (label-closed (label - 1) (omega arith));
           largest = largest;
-          few = omega (arith, label-most apart);
-          closings = λ c. (λ x. omega (arith, closed-is apart c .0 x), λ le. label-closed c (omega arith));
+          few = omega (arith, label-most different);
+          closings = λ c. (λ x. omega (arith, closed-is different c .0 x), λ le. label-closed c (omega arith));
           clocks = λ c tick e later. (
-            λ x. omega (arith, closed-is apart c .0 (later-joined are c tick e later .0 x)),
+            λ x. omega (arith, closed-is different c .0 (later-joined are c tick e later .0 x)),
             λ le. later-joined are c tick e later .1 (label-closed c (omega arith)),
           );
         }
@@ -238,7 +238,7 @@ module _ {h : History} {s : State} (agrees : Agrees h s) (one other : ℕ) where
             let c : ℕ = m + h .settings .n - openSlideIn h - 1 in
             let from : newest + h .settings .n ≡ openSlideIn h + label = newest-is l in
             let at : closed h c ≡ linksSince h m = closed-since (agrees .sensible) c m (λ t le. (λ e. omega arith, λ e. omega arith)) in
-            let below : c < label = closed-is apart c .0 (rw at x) in
+            let below : c < label = closed-is different c .0 (rw at x) in
             omega arith
 
     module _ (places : has chainPlaces chain ≡ true) (are : areCells one other ≡ true) where
@@ -273,7 +273,7 @@ module _ {h : History} {s : State} (agrees : Agrees h s) (one other : ℕ) where
             done = done;
             joins = (λ y. done .1 (joined-window agrees one other are .0 y), λ e. joined-window agrees one other are .1 (done .0 e));
             handed = λ e. rw (chain-done e) (given-handed (positive e));
-            apart = λ e apart. rw (chain-done e) (given-apart are (positive e) apart);
+            different = λ e different. rw (chain-done e) (given-apart are (positive e) different);
             itself = λ e. rw (chain-done (done .1 (same e))) (given-itself e);
           }
 

@@ -52,10 +52,10 @@ module _ (chunk : ℕ) (counts : List ℕ) (long : length counts ≡ 32) where
       rw (length-append, length-append)
       (omega (arith, length-take-le (half * 16) counts (omega arith), length-drop (half * 16 + 16) counts))
 
-  pub cleared-few : (most : ℕ) → ((spot : ℕ) → getD counts spot 0 ≤ most) → (spot : ℕ) → getD (cleared half counts) spot 0 ≤ most
-  cleared-few most few spot = go (decLt spot (half * 16)) (decLe (half * 16 + 16) spot)
+  pub cleared-few : (limit : ℕ) → ((spot : ℕ) → getD counts spot 0 ≤ limit) → (spot : ℕ) → getD (cleared half counts) spot 0 ≤ limit
+  cleared-few limit few spot = go (decLt spot (half * 16)) (decLe (half * 16 + 16) spot)
     where
-      go : Dec (spot < half * 16) → Dec (half * 16 + 16 ≤ spot) → getD (cleared half counts) spot 0 ≤ most
+      go : Dec (spot < half * 16) → Dec (half * 16 + 16 ≤ spot) → getD (cleared half counts) spot 0 ≤ limit
       go (yes h) d = rw (cleared-away spot (inl h)) (few spot)
       go (no h) (yes k) = rw (cleared-away spot (inr k)) (few spot)
       go (no h) (no k) =

@@ -18,16 +18,16 @@ use Rattle.cells.specs.Cell.{lorryCellOver}
 use Rattle.forest.specs.Arrays.{countFrom}
 use Rattle.forest_check.specs.Sound.{every}
 use Rattle.book_state.specs.Arrays.{united, unitedAll}
-use Rattle.book_state.specs.Log.{linksFrom, chunkLinks, stored}
+use Rattle.book_state.specs.Log.{linksAt, chunkLinks, stored}
 use Rattle.book_state.specs.Order.{inOrder, inOrderOf}
-use Rattle.book_time.specs.Time.{cleared, emptied, stayed, backwardOf, turned, movedBy, movedBook}
+use Rattle.book_time.specs.Time.{cleared, emptied, stayed, backwardOf, turned, movedByChunk, movedBook}
 use Rattle.book_state.specs.Numbers.{firstOf, has, logPlaces}
-use Rattle.book_joined.specs.Joined.{forwardSteps, backwardSteps, stepLinks, fourWalks, joinedNumber, joinedBy, joinedOf}
-use Rattle.book.specs.Calls.{openingNumber, openingBy, openingOf, linkNumber, linkStored, linkBy, linkOf, clockNumber, clockBy, clockOf}
+use Rattle.book_joined.specs.Joined.{parentSteps, parentStepsAt, stepLinks, fourWalks, joinedNumber, joinedByNumber, joinedOf}
+use Rattle.book.specs.Calls.{openingNumber, openingByNumber, openingOf, linkNumber, linkStored, linkByNumber, linkOf, clockNumber, clockByNumber, clockOf}
 use Rattle.chain.specs.Chain.{chainPlaces}
-use Rattle.promises.specs.History.{Call, opening, link, History, begun, historyFrom, oneMore, firstBy, ofSlides, howMany, numberIn, added, addedBy, windowOf}
+use Rattle.promises.specs.History.{Call, opening, link, History, begun, historyFrom, oneMore, firstByNumber, ofSlides, howMany, numberIn, added, addedByNumber, windowOf}
 use Rattle.promises.specs.Panel.{Panel, ours, State, gives, after}
-use Rattle.promises.specs.Demands.{Told, Table, Refused, Joined, Chain}
+use Rattle.promises.specs.Demands.{HasHistory, Table, Refused, Joined, Chain}
 use Rattle.promises.specs.Fakes.{refusing, fixedJoined, inventive, fixedChain, chainless, forgotten, forgetful, idle}
 use Rattle.promises.proofs.Table.{table}
 use Rattle.promises.proofs.Refused.{refused}
@@ -43,8 +43,8 @@ start = record { book = emptied (started settings) 1; log = replicate logPlaces 
 abbrev opened : List Call
 opened = opening settings ∷ []
 
-told-opened : Told start opened (begun settings)
-unfolding historyFrom oneMore firstBy firstOf has
+told-opened : HasHistory start opened (begun settings)
+unfolding historyFrom oneMore firstByNumber firstOf has
 told-opened = refl
 
 pub not-refusing : Table refusing → ⊥
@@ -97,8 +97,8 @@ late = opening settings ∷ link 45 4 5 ∷ []
 abbrev then : History
 then = record { settings = settings; time = 45; links = record { slide = 4; link = record { one = 4; other = 5 } } ∷ [] }
 
-told-late : Told start late then
-unfolding historyFrom oneMore firstBy firstOf has numberIn addedBy added notBefore slideOf howMany ofSlides lorryCellOver
+told-late : HasHistory start late then
+unfolding historyFrom oneMore firstByNumber firstOf has numberIn addedByNumber added notBefore slideOf howMany ofSlides lorryCellOver
 told-late = refl
 
 chained-late : Chained (windowOf then) 4 5
@@ -110,7 +110,7 @@ says-no : (p : Panel) → p .joinedGives (after p start late .book) 4 5 .yes ≡
 says-no p e j = false≢true (sym e ∙ j .chained start late then told-late 4 5 refl .1 chained-late)
 
 nothing-stored : (joinedOf (after forgetful start late .book) 4 5 .yes ≡ false) × (joinedOf (after idle start late .book) 4 5 .yes ≡ false)
-unfolding after gives forgotten openingOf linkOf clockOf joinedOf openingNumber openingBy stored linkNumber linkStored linkBy clockNumber clockBy forwardSteps backwardSteps stepLinks fourWalks joinedNumber joinedBy firstOf has cleared emptied stayed backwardOf turned movedBy movedBook inOrderOf linksFrom chunkLinks united unitedAll every countFrom notBefore slideOf placeOf movedTo clockInRange lorryCellOver climb chains
+unfolding after gives forgotten openingOf linkOf clockOf joinedOf openingNumber openingByNumber stored linkNumber linkStored linkByNumber clockNumber clockByNumber parentSteps parentStepsAt stepLinks fourWalks joinedNumber joinedByNumber firstOf has cleared emptied stayed backwardOf turned movedByChunk movedBook inOrderOf linksAt chunkLinks united unitedAll every countFrom notBefore slideOf placeOf movedTo clockInRange lorryCellOver climb chains
 nothing-stored = (refl, refl)
 
 pub not-forgetful : Joined forgetful → ⊥

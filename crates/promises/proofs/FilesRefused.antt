@@ -9,7 +9,7 @@ use native.Mathlib.Omega.{arith}
 use Rattle.file.proofs.Files.{refused-read, refused-write}
 use Rattle.book_state.specs.declared.Book.{Book}
 use Rattle.book.specs.Calls.{Outcome}
-use Rattle.file_play.specs.Play.{Play, tickAt, oneAt, otherAt, recordGives, playBy, playFrom}
+use Rattle.file_play.specs.Play.{Play, tickAt, oneAt, otherAt, recordGives, playByNumber, playFrom}
 use Rattle.listing.specs.Listing.{listedIf, listingOf}
 use Rattle.promises.specs.History.{link}
 use Rattle.promises.specs.Panel.{gives}
@@ -30,7 +30,7 @@ record-kept file i b log = refused .kept (record { book = b; log = log }) (link 
 
 stopped : (file : List ℕ) (m i : ℕ) (b : Book) (log : List ℕ) → (playFrom file i m b log .number ≡ 0 → ⊥) →
     Stopped file i b log (playFrom file i m b log)
-unfolding playFrom playBy
+unfolding playFrom playByNumber
 stopped file zero i b log failed = absurd (failed refl)
 stopped file (suc m) i b log failed = go (o .number) refl failed (stopped file m (suc i) (o .book) (o .log))
   where
@@ -40,8 +40,8 @@ stopped file (suc m) i b log failed = go (o .number) refl failed (stopped file m
     rest : Play
     rest = playFrom file (suc i) m (o .book) (o .log)
 
-    go : (k : ℕ) → o .number ≡ k → (playBy k i o rest .number ≡ 0 → ⊥) → ((rest .number ≡ 0 → ⊥) → Stopped file (suc i) (o .book) (o .log) rest) →
-        Stopped file i b log (playBy k i o rest)
+    go : (k : ℕ) → o .number ≡ k → (playByNumber k i o rest .number ≡ 0 → ⊥) → ((rest .number ≡ 0 → ⊥) → Stopped file (suc i) (o .book) (o .log) rest) →
+        Stopped file i b log (playByNumber k i o rest)
     go zero e failed later =
         let w : Stopped file (suc i) (o .book) (o .log) rest = later failed in
         record { before = suc (w .before); place = omega (arith, w .place); kept = rw e (w .kept); number = w .number }

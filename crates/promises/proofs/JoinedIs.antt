@@ -18,14 +18,14 @@ use Rattle.graph.proofs.Cut.{each-at-least, cut-is-forest, walk-at-short, walk-
 use Rattle.slides.proofs.Slides.{place-rest}
 use Rattle.forest.specs.Arrays.{parentIn, parentAtIn}
 use Rattle.book_state.specs.declared.Book.{Book}
-use Rattle.book_state.specs.Arrays.{most}
+use Rattle.book_state.specs.Arrays.{stepLimit}
 use Rattle.book_state.specs.Order.{inOrder}
 use Rattle.book_joined.specs.Joined as calls
 use Rattle.book_state.specs.Numbers.{areCells, firstOf}
-use Rattle.book_joined.specs.Joined.{cutOf, stepLinks, fourWalks, joinedOf, joinedBy, joinedNumber}
+use Rattle.book_joined.specs.Joined.{cutOf, stepLinks, fourWalks, joinedOf, joinedByNumber, joinedNumber}
 use Rattle.promises.specs.History.{History, clockIn, openSlideIn, windowOf, backwardLinks}
 use Rattle.promises.specs.Panel.{State, ours}
-use Rattle.promises.specs.Demands.{cutIn, forwardSteps, backwardSteps, WalksEnd, Joined}
+use Rattle.promises.specs.Demands.{cutIn, forwardStepCount, backwardStepCount, WalksEnd, Joined}
 use Rattle.promises.proofs.Agrees.{Sensible, Agrees}
 use Rattle.promises.proofs.InOrder.{agrees-in-order}
 use Rattle.promises.proofs.Forests.{forward-ends, backward-ends}
@@ -40,16 +40,16 @@ module _ {h : History} (sensible : Sensible h) where
   pub walks-end : (c : ℕ) → WalksEnd h c
   walks-end c =
       record {
-        backward = walk-at-ends (le-refl most) (backward-ends sensible) (backward-falls sensible) (cutIn h) c;
-        forward = walk-ends (le-refl most) (forward-ends sensible) c;
-        backward-short = walk-at-short (le-refl most) (backward-ends sensible) (backward-falls sensible) (cutIn h) c;
-        forward-short = walk-short (le-refl most) (forward-ends sensible) c;
+        backward = walk-at-ends (le-refl stepLimit) (backward-ends sensible) (backward-falls sensible) (cutIn h) c;
+        forward = walk-ends (le-refl stepLimit) (forward-ends sensible) c;
+        backward-short = walk-at-short (le-refl stepLimit) (backward-ends sensible) (backward-falls sensible) (cutIn h) c;
+        forward-short = walk-short (le-refl stepLimit) (forward-ends sensible) c;
       }
 
 -- the answer of a book that is in order, for two cells
 joined-cells : (b : Book) (one other : ℕ) → inOrder b ≡ true → areCells one other ≡ true →
     joinedOf b one other ≡ record { number = 0; yes = chains (stepLinks b) one other; steps = fourWalks b one other }
-unfolding joinedOf joinedNumber joinedBy firstOf
+unfolding joinedOf joinedNumber joinedByNumber firstOf
 joined-cells b one other in-order are = rw (in-order, are)
 
 module _ {h : History} {s : State} (agrees : Agrees h s) where
@@ -59,21 +59,21 @@ module _ {h : History} {s : State} (agrees : Agrees h s) where
 
   -- ---- yes
 
-  forward-chain : (x y : ℕ) → Chained (calls.forwardSteps 0 (s .book .«forward_parent»)) x y ↔ Chained (forwardPart h) x y
+  forward-chain : (x y : ℕ) → Chained (calls.forwardStepCount 0 (s .book .«forward_parent»)) x y ↔ Chained (forwardPart h) x y
   forward-chain =
-      forest-chain (le-refl most) (forward-ends (agrees .sensible))
-      (subst (λ up. Steps up 0 (calls.forwardSteps 0 (s .book .«forward_parent»))) (agrees .forward-parents) (forward-steps (s .book .«forward_parent»)))
+      forest-chain (le-refl stepLimit) (forward-ends (agrees .sensible))
+      (subst (λ up. Steps up 0 (calls.forwardStepCount 0 (s .book .«forward_parent»))) (agrees .forward-parents) (forward-steps (s .book .«forward_parent»)))
 
   -- at the cut the backward lists hold the forest of the links that the cut leaves
-  backward-up : parentAtIn (s .book .«backward_parent») (s .book .«backward_label») (cutOf (s .book)) ≡ forestOf most (atLeast (cutIn h) (backwardLinks h)) .parent
+  backward-up : parentAtIn (s .book .«backward_parent») (s .book .«backward_label») (cutOf (s .book)) ≡ forestOf stepLimit (atLeast (cutIn h) (backwardLinks h)) .parent
   backward-up =
-      ap₂ parentAt (agrees .backward) cut-is ∙ cut-is-forest (le-refl most) (backward-ends (agrees .sensible)) (backward-falls (agrees .sensible)) (cutIn h)
+      ap₂ parentAt (agrees .backward) cut-is ∙ cut-is-forest (le-refl stepLimit) (backward-ends (agrees .sensible)) (backward-falls (agrees .sensible)) (cutIn h)
 
   backward-chain : (x y : ℕ) →
-      Chained (calls.backwardSteps (cutOf (s .book)) 0 (s .book .«backward_parent») (s .book .«backward_label»)) x y ↔ Chained (backwardPart h) x y
+      Chained (calls.backwardStepCount (cutOf (s .book)) 0 (s .book .«backward_parent») (s .book .«backward_label»)) x y ↔ Chained (backwardPart h) x y
   backward-chain =
-      forest-chain (le-refl most) (each-at-least (cutIn h) (backward-ends (agrees .sensible)))
-      (subst (λ up. Steps up 0 (calls.backwardSteps (cutOf (s .book)) 0 (s .book .«backward_parent») (s .book .«backward_label»))) backward-up
+      forest-chain (le-refl stepLimit) (each-at-least (cutIn h) (backward-ends (agrees .sensible)))
+      (subst (λ up. Steps up 0 (calls.backwardStepCount (cutOf (s .book)) 0 (s .book .«backward_parent») (s .book .«backward_label»))) backward-up
       (backward-steps (cutOf (s .book)) _ _ (omega arith)))
 
   -- the steps chain exactly what the window's links chain
@@ -96,20 +96,20 @@ module _ {h : History} {s : State} (agrees : Agrees h s) where
 
   -- ---- steps
 
-  backward-walk : (c : ℕ) → climb (parentAtIn (s .book .«backward_parent») (s .book .«backward_label») (cutOf (s .book))) most c .steps ≡ backwardSteps h c
+  backward-walk : (c : ℕ) → climb (parentAtIn (s .book .«backward_parent») (s .book .«backward_label») (cutOf (s .book))) stepLimit c .steps ≡ backwardStepCount h c
   unfolding walkAt
-  backward-walk c = ap₂ (λ f cut. walkAt most f cut c .steps) (agrees .backward) cut-is
+  backward-walk c = ap₂ (λ f cut. walkAt stepLimit f cut c .steps) (agrees .backward) cut-is
 
-  forward-walk : (c : ℕ) → climb (parentIn (s .book .«forward_parent»)) most c .steps ≡ forwardSteps h c
+  forward-walk : (c : ℕ) → climb (parentIn (s .book .«forward_parent»)) stepLimit c .steps ≡ forwardStepCount h c
   unfolding walk
-  forward-walk c = ap (λ up. climb up most c .steps) (agrees .forward-parents)
+  forward-walk c = ap (λ up. climb up stepLimit c .steps) (agrees .forward-parents)
 
-  four-walks : (one other : ℕ) → fourWalks (s .book) one other ≡ backwardSteps h one + backwardSteps h other + forwardSteps h one + forwardSteps h other
+  four-walks : (one other : ℕ) → fourWalks (s .book) one other ≡ backwardStepCount h one + backwardStepCount h other + forwardStepCount h one + forwardStepCount h other
   unfolding fourWalks
   four-walks one other = rw (backward-walk one, backward-walk other, forward-walk one, forward-walk other)
 
   joined-steps : (one other : ℕ) → areCells one other ≡ true →
-      joinedOf (s .book) one other .steps ≡ backwardSteps h one + backwardSteps h other + forwardSteps h one + forwardSteps h other
+      joinedOf (s .book) one other .steps ≡ backwardStepCount h one + backwardStepCount h other + forwardStepCount h one + forwardStepCount h other
   joined-steps one other are = rw (joined-cells (s .book) one other (agrees-in-order agrees) are) (four-walks one other)
 
   few-steps : (one other : ℕ) → fourWalks (s .book) one other ≤ 40
@@ -120,10 +120,10 @@ module _ {h : History} {s : State} (agrees : Agrees h s) where
 
   -- a refusal counts no steps
   joined-few : (one other : ℕ) → joinedOf (s .book) one other .steps ≤ 40
-  unfolding joinedOf joinedBy
+  unfolding joinedOf joinedByNumber
   joined-few one other = go (joinedNumber (s .book) one other)
     where
-      go : (number : ℕ) → joinedBy number (s .book) one other .steps ≤ 40
+      go : (number : ℕ) → joinedByNumber number (s .book) one other .steps ≤ 40
       go zero = few-steps one other
       go (suc k) = zero-le
 

@@ -18,7 +18,7 @@ use Rattle.slides.specs.Clock.{notBefore}
 use Rattle.book_state.specs.Arrays.{cells}
 use Rattle.book_time.specs.Time.{movedBook}
 use Rattle.book_state.specs.Numbers.{logPlaces}
-use Rattle.book.specs.Calls.{openingNumber, openingBy, openingOf, linkNumber, linkStored, linkBy, linkOf, clockBy, clockOf}
+use Rattle.book.specs.Calls.{openingNumber, openingByNumber, openingOf, linkNumber, linkStored, linkByNumber, linkOf, clockByNumber, clockOf}
 use Rattle.promises.specs.History.{
   Call,
   opening,
@@ -31,13 +31,13 @@ use Rattle.promises.specs.History.{
   lorryLink,
   withLink,
   added,
-  addedBy,
-  firstBy,
+  addedByNumber,
+  firstByNumber,
   oneMore,
   historyFrom,
 }
 use Rattle.promises.specs.Panel.{ours, State, stateOf, gives, after}
-use Rattle.promises.specs.Demands.{roomIn, Told}
+use Rattle.promises.specs.Demands.{roomIn, HasHistory}
 use Rattle.promises.proofs.Agrees.{Agrees}
 use Rattle.promises.proofs.Numbers.{has-front, has-long}
 use Rattle.book_state.proofs.Checks.{first-passed, unless-passed}
@@ -50,20 +50,20 @@ use Rattle.promises.proofs.KeptByLink.{link-agrees}
 -- ---- the log's places
 
 opening-room : (s : State) (settings : Settings) → roomIn (stateOf (openingOf (s .book) (s .log) settings)) ≡ roomIn s
-unfolding openingOf openingBy openingNumber
+unfolding openingOf openingByNumber openingNumber
 opening-room s settings = go (openingNumber settings (s .log)) refl
   where
-    go : (k : ℕ) → openingNumber settings (s .log) ≡ k → roomIn (stateOf (openingBy k (s .book) (s .log) settings)) ≡ roomIn s
+    go : (k : ℕ) → openingNumber settings (s .log) ≡ k → roomIn (stateOf (openingByNumber k (s .book) (s .log) settings)) ≡ roomIn s
     go zero e = has-front logPlaces _ ∙ sym (unless-passed _ 5 (first-passed _ [] (first-passed _ _ e .1) .0))
     go (suc k) e = refl
 
-link-room : (s : State) (tick one other k : ℕ) → roomIn (stateOf (linkBy k (s .book) (s .log) tick one other)) ≡ roomIn s
-unfolding linkBy linkStored
+link-room : (s : State) (tick one other k : ℕ) → roomIn (stateOf (linkByNumber k (s .book) (s .log) tick one other)) ≡ roomIn s
+unfolding linkByNumber linkStored
 link-room s tick one other zero = has-long logPlaces _ (s .log) (length-set (set (s .log) _ _) _ _ ∙ length-set (s .log) _ _)
 link-room s tick one other (suc k) = refl
 
-clock-room : (s : State) (tick k : ℕ) → roomIn (stateOf (clockBy k (s .book) (s .log) tick)) ≡ roomIn s
-unfolding clockBy
+clock-room : (s : State) (tick k : ℕ) → roomIn (stateOf (clockByNumber k (s .book) (s .log) tick)) ≡ roomIn s
+unfolding clockByNumber
 clock-room s tick zero = refl
 clock-room s tick (suc k) = refl
 
@@ -87,21 +87,21 @@ Fits (some h) s = Agrees h s
 
 -- an opening where there was no history, by its number
 opening-fits : (s : State) (settings : Settings) (k : ℕ) → openingNumber settings (s .log) ≡ k
-    → Fits (firstBy k settings) (stateOf (openingBy k (s .book) (s .log) settings))
-unfolding Fits firstBy openingBy openingNumber
+    → Fits (firstByNumber k settings) (stateOf (openingByNumber k (s .book) (s .log) settings))
+unfolding Fits firstByNumber openingByNumber openingNumber
 opening-fits s settings zero e = opening-agrees settings (s .log) (first-passed _ _ e .0)
 opening-fits s settings (suc k) e = tt
 
 module _ {h : History} {s : State} (a : Agrees h s) where
   opening-step : (settings : Settings) (k : ℕ) → openingNumber settings (s .log) ≡ k
-      → Agrees (addedBy k h (opening settings)) (stateOf (openingBy k (s .book) (s .log) settings))
-  unfolding addedBy added openingBy openingNumber
+      → Agrees (addedByNumber k h (opening settings)) (stateOf (openingByNumber k (s .book) (s .log) settings))
+  unfolding addedByNumber added openingByNumber openingNumber
   opening-step settings zero e = opening-agrees settings (s .log) (first-passed _ _ e .0)
   opening-step settings (suc k) e = a
 
   clock-step : (tick k : ℕ) → numberIn (roomIn s) h (clock tick) ≡ k
-      → Agrees (addedBy k h (clock tick)) (stateOf (clockBy k (s .book) (s .log) tick))
-  unfolding addedBy added clockBy numberIn
+      → Agrees (addedByNumber k h (clock tick)) (stateOf (clockByNumber k (s .book) (s .log) tick))
+  unfolding addedByNumber added clockByNumber numberIn
   clock-step tick zero e = time-agrees a tick (unless-passed _ 3 e)
   clock-step tick (suc k) e = a
 
@@ -126,12 +126,12 @@ module _ {h : History} {s : State} (a : Agrees h s) where
       two = and-eq-true-iff _ _ .0 (t .cells)
 
   link-step : (tick one other k : ℕ) → linkNumber (s .book) (s .log) tick one other ≡ k
-      → Agrees (addedBy k h (link tick one other)) (stateOf (linkBy k (s .book) (s .log) tick one other))
-  unfolding addedBy added linkBy
+      → Agrees (addedByNumber k h (link tick one other)) (stateOf (linkByNumber k (s .book) (s .log) tick one other))
+  unfolding addedByNumber added linkByNumber
   link-step tick one other zero e = link-done tick one other (taken (s .book) (s .log) tick one other e)
   link-step tick one other (suc k) e = a
 
-  pub step : (c : Call) → Agrees (addedBy (numberIn (roomIn s) h c) h c) (stateOf (gives ours s c))
+  pub step : (c : Call) → Agrees (addedByNumber (numberIn (roomIn s) h c) h c) (stateOf (gives ours s c))
   unfolding gives openingOf linkOf clockOf numberIn openingNumber
   step (opening settings) = opening-step settings _ refl
   step (link tick one other) = rw (← (link-number a tick one other)) (link-step tick one other _ refl)
@@ -157,6 +157,6 @@ keeps-from [] s o h f e = told-fits s o h f e
 keeps-from (c ∷ cs) s o h f e =
     keeps-from cs (stateOf (gives ours s c)) (oneMore (roomIn s) o c) h (more-fits s o c f) (rw (room-kept s c) e)
 
-pub keeps : (s : State) (cs : List Call) (h : History) → Told s cs h → Agrees h (after ours s cs)
+pub keeps : (s : State) (cs : List Call) (h : History) → HasHistory s cs h → Agrees h (after ours s cs)
 unfolding Fits
 keeps s cs h told = keeps-from cs s none h tt told

@@ -19,7 +19,7 @@ use Rattle.graph.specs.Link.{Link}
 use Rattle.graph.specs.Forest.{Labelled, forestOf}
 use Rattle.graph.proofs.Cut.{label-bounded}
 use Rattle.forest.specs.Arrays.{labelIn, freshLabels}
-use Rattle.book_state.specs.Arrays.{cells, most, Arrays, united}
+use Rattle.book_state.specs.Arrays.{cells, stepLimit, Arrays, united}
 use Rattle.book_state.specs.Log.{startOf}
 use Rattle.book_state.specs.Numbers.{logPlaces}
 use Rattle.book.specs.Calls.{linkStored}
@@ -105,14 +105,14 @@ module _ {h : History} {s : State} (a : Agrees h s) (l : Link) (one : l .one < c
       record {
         count =
             rw (new-counts, slide-other t n)
-            (getD-set-other (s .book .counts) spot (spotIn h t) (count + 1) 0 apart ∙ a .kept t live .count);
+            (getD-set-other (s .book .counts) spot (spotIn h t) (count + 1) 0 different ∙ a .kept t live .count);
         links =
             rw (new-log, slide-other t n)
-            (links-other-spot (s .log) spot count l (spotIn h t) _ apart few (a .sensible .few t) ∙ a .kept t live .links);
+            (links-other-spot (s .log) spot count l (spotIn h t) _ different few (a .sensible .few t) ∙ a .kept t live .links);
       }
     where
-      apart : spotIn h t ≡ spot → ⊥
-      apart e = n (spot-apart h (a .sensible) t (openSlideIn h) live (inl refl) e)
+      different : spotIn h t ≡ spot → ⊥
+      different e = n (spot-apart h (a .sensible) t (openSlideIn h) live (inl refl) e)
 
   count-most : (i : ℕ) → getD (new .book .counts) i 0 ≤ 256
   count-most i = rw new-counts (go (ℕ-discrete i spot))
@@ -169,7 +169,7 @@ module _ {h : History} {s : State} (a : Agrees h s) (l : Link) (one : l .one < c
         backward-long = a .backward-long;
         forward-parents = ap (λ f. f .parent) (new-holds .holds);
         forward-sizes = ap (λ f. f .size) (new-holds .holds);
-        backward = a .backward ∙ ap (forestOf most) (sym backward-same);
+        backward = a .backward ∙ ap (forestOf stepLimit) (sym backward-same);
       }
     where
       go : (t : ℕ) → Live h t → Dec (t ≡ openSlideIn h) → Kept (withLink h l) new t

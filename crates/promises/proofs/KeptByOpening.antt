@@ -17,8 +17,8 @@ use Rattle.settings.specs.Settings.{takenNumber}
 use Rattle.settings.specs.declared.Settings.{Settings}
 use Rattle.slides.specs.Clock.{started}
 use Rattle.forest.specs.Arrays.{held}
-use Rattle.book_state.specs.Arrays.{most, freshArrays}
-use Rattle.book_state.specs.Log.{linksFrom}
+use Rattle.book_state.specs.Arrays.{stepLimit, freshArrays}
+use Rattle.book_state.specs.Log.{linksAt}
 use Rattle.book_time.specs.Time.{emptied}
 use Rattle.book_state.specs.Numbers.{has, logPlaces}
 use Rattle.promises.specs.History.{History, clockIn, chunkIn, ofSlides, howMany, slideLinks, begun, forwardLinks, backwardLinks}
@@ -31,13 +31,13 @@ use Rattle.book_state.proofs.Built.{holds-fresh}
 
 -- a slide without links is kept where its count is 0
 pub kept-none : (h : History) (s : State) (t : ℕ) → slideLinks t (h .links) ≡ [] → getD (s .book .counts) (spotIn h t) 0 ≡ 0 → Kept h s t
-unfolding howMany linksFrom
+unfolding howMany linksAt
 kept-none h s t e c = record { count = rw e c; links = rw e }
 
 -- fresh lists hold the forest of no links
 pub fresh-forest : {xs : List Labelled} → xs ≡ []
-    → held (freshArrays .parents) (freshArrays .sizes) (freshArrays .labels) ≡ forestOf most xs
-fresh-forest e = holds-fresh .holds ∙ ap (forestOf most) (sym e)
+    → held (freshArrays .parents) (freshArrays .sizes) (freshArrays .labels) ≡ forestOf stepLimit xs
+fresh-forest e = holds-fresh .holds ∙ ap (forestOf stepLimit) (sym e)
 
 -- no links of slides of the open chunk and the one before it, nor of later ones
 abbrev pub Bare : History → Type 0

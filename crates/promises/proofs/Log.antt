@@ -14,12 +14,12 @@ use lib.Seq.{getD-set-same, getD-set-other}
 use borrow.Author.Tests.{lt-ltb}
 use Rattle.graph.specs.Link.{Link}
 use Rattle.book_state.specs.Arrays.{cells}
-use Rattle.book_state.specs.Log.{startOf, keep, pairAt, linksFrom}
+use Rattle.book_state.specs.Log.{startOf, keep, pairAt, linksAt}
 
 -- logs that agree on the places of the links hold the same links
 links-same : (log log′ : List ℕ) (at n : ℕ) → ((i : ℕ) → at ≤ i → i < at + (n + n) → getD log i 0 ≡ getD log′ i 0)
-    → linksFrom log at n ≡ linksFrom log′ at n
-unfolding linksFrom
+    → linksAt log at n ≡ linksAt log′ at n
+unfolding linksAt
 links-same log log′ at zero e = refl
 links-same log log′ at (suc n) e =
     let rest = links-same log log′ (at + 2) n (λ i l h. e i (omega arith) (omega arith)) in
@@ -36,13 +36,13 @@ keep-end l ls ms = go (ltb (l .one) cells && ltb (l .other) cells)
 keep-cells : (l : Link) (ls : List Link) → l .one < cells → l .other < cells → keep l ls ≡ l ∷ ls
 keep-cells l ls one other = rw (lt-ltb _ _ one, lt-ltb _ _ other)
 
-links-more : (log : List ℕ) (at n : ℕ) → linksFrom log at (suc n) ≡ linksFrom log at n ++ keep (pairAt log (at + (n + n))) []
-unfolding linksFrom
+links-more : (log : List ℕ) (at n : ℕ) → linksAt log at (suc n) ≡ linksAt log at n ++ keep (pairAt log (at + (n + n))) []
+unfolding linksAt
 links-more log at zero = rw (add-zero at)
 links-more log at (suc n) =
     ap (keep (pairAt log at))
-    (links-more log (at + 2) n ∙ ap (λ i. linksFrom log (at + 2) n ++ keep (pairAt log i) []) (omega arith))
-    ∙ keep-end (pairAt log at) (linksFrom log (at + 2) n) _
+    (links-more log (at + 2) n ∙ ap (λ i. linksAt log (at + 2) n ++ keep (pairAt log i) []) (omega arith))
+    ∙ keep-end (pairAt log at) (linksAt log (at + 2) n) _
 
 -- ---- a pair of cells stored
 
@@ -67,23 +67,23 @@ module _ (log : List ℕ) (at : ℕ) (l : Link) where
 
 -- links elsewhere are as before
 links-elsewhere : (log : List ℕ) (at : ℕ) (l : Link) (start n : ℕ) → (at + 1 < start) ⊎ (start + (n + n) ≤ at)
-    → linksFrom (paired log at l) start n ≡ linksFrom log start n
+    → linksAt (paired log at l) start n ≡ linksAt log start n
 links-elsewhere log at l start n (inl before) = links-same _ log start n (λ i a b. paired-other log at l i (omega arith) (omega arith))
 links-elsewhere log at l start n (inr after) = links-same _ log start n (λ i a b. paired-other log at l i (omega arith) (omega arith))
 
 -- and after n links there is one more
 pub links-stored : (log : List ℕ) (start n : ℕ) (l : Link) → l .one < cells → l .other < cells → start + (n + n) + 1 < length log
-    → linksFrom (paired log (start + (n + n)) l) start (suc n) ≡ linksFrom log start n ++ (l ∷ [])
+    → linksAt (paired log (start + (n + n)) l) start (suc n) ≡ linksAt log start n ++ (l ∷ [])
 links-stored log start n l one other h =
     let log′ : List ℕ = paired log (start + (n + n)) l in
     links-more log′ start n
-    ∙ ap (λ p. linksFrom log′ start n ++ keep p []) (paired-here log (start + (n + n)) l h)
-    ∙ ap (λ ls. linksFrom log′ start n ++ ls) (keep-cells l [] one other)
+    ∙ ap (λ p. linksAt log′ start n ++ keep p []) (paired-here log (start + (n + n)) l h)
+    ∙ ap (λ ls. linksAt log′ start n ++ ls) (keep-cells l [] one other)
     ∙ ap (λ ls. ls ++ (l ∷ [])) (links-elsewhere log (start + (n + n)) l start n (inr (omega arith)))
 
 -- a link stored at a spot with less than 256 is no link of another spot
 pub links-other-spot : (log : List ℕ) (spot count : ℕ) (l : Link) (spot′ count′ : ℕ) → (spot′ ≡ spot → ⊥) → count < 256 → count′ ≤ 256
-    → linksFrom (paired log (startOf spot + (count + count)) l) (startOf spot′) count′ ≡ linksFrom log (startOf spot′) count′
+    → linksAt (paired log (startOf spot + (count + count)) l) (startOf spot′) count′ ≡ linksAt log (startOf spot′) count′
 links-other-spot log spot count l spot′ count′ n c c′ = links-elsewhere log _ l (startOf spot′) count′ (side (decLt spot spot′))
   where
     side : Dec (spot < spot′)

@@ -18,8 +18,8 @@ use Rattle.slides.proofs.Slides.{slide-later, place-rest}
 use Rattle.book_state.specs.declared.Book.{Book}
 use Rattle.book_state.specs.Log.{halfOf, spotOf, stored}
 use Rattle.book_state.specs.Numbers.{firstOf, unless, areCells}
-use Rattle.book_joined.specs.Joined.{joinedNumber, joinedBy, joinedOf}
-use Rattle.book.specs.Calls.{openingNumber, openingBy, openingOf, linkNumber, linkStored, linkBy, linkOf, clockNumber, clockBy, clockOf}
+use Rattle.book_joined.specs.Joined.{joinedNumber, joinedByNumber, joinedOf}
+use Rattle.book.specs.Calls.{openingNumber, openingByNumber, openingOf, linkNumber, linkStored, linkByNumber, linkOf, clockNumber, clockByNumber, clockOf}
 use Rattle.promises.specs.History.{Call, opening, link, clock, History, clockIn, chunkIn, howMany, slideLinks, numberIn}
 use Rattle.promises.specs.Panel.{ours, State, gives}
 use Rattle.promises.specs.Demands.{roomIn}
@@ -36,20 +36,20 @@ itself f done refused zero = done
 itself f done refused (suc k) = refused k
 
 pub opening-gives : (b : Book) (log : List ℕ) (s : Settings) → openingOf b log s .number ≡ openingNumber s log
-unfolding openingOf openingBy
-opening-gives b log s = itself (λ k. openingBy k b log s .number) refl (λ k. refl) _
+unfolding openingOf openingByNumber
+opening-gives b log s = itself (λ k. openingByNumber k b log s .number) refl (λ k. refl) _
 
 link-gives : (b : Book) (log : List ℕ) (tick one other : ℕ) → linkOf b log tick one other .number ≡ linkNumber b log tick one other
-unfolding linkOf linkBy linkStored
-link-gives b log tick one other = itself (λ k. linkBy k b log tick one other .number) refl (λ k. refl) _
+unfolding linkOf linkByNumber linkStored
+link-gives b log tick one other = itself (λ k. linkByNumber k b log tick one other .number) refl (λ k. refl) _
 
 clock-gives : (b : Book) (log : List ℕ) (tick : ℕ) → clockOf b log tick .number ≡ clockNumber b log tick
-unfolding clockOf clockBy
-clock-gives b log tick = itself (λ k. clockBy k b log tick .number) refl (λ k. refl) _
+unfolding clockOf clockByNumber
+clock-gives b log tick = itself (λ k. clockByNumber k b log tick .number) refl (λ k. refl) _
 
 joined-gives : (b : Book) (one other : ℕ) → joinedOf b one other .number ≡ joinedNumber b one other
-unfolding joinedOf joinedBy
-joined-gives b one other = itself (λ k. joinedBy k b one other .number) refl (λ k. refl) _
+unfolding joinedOf joinedByNumber
+joined-gives b one other = itself (λ k. joinedByNumber k b one other .number) refl (λ k. refl) _
 
 module _ {h : History} {s : State} (a : Agrees h s) where
   -- ---- how many links a slide holds

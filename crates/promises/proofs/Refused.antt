@@ -17,9 +17,9 @@ use Rattle.book_state.specs.declared.Book.{Book}
 use Rattle.book_state.specs.Log.{halfOf, spotOf, startOf}
 use Rattle.book_state.specs.Order.{inOrder, inOrderOf}
 use Rattle.book_state.specs.Numbers.{logPlaces}
-use Rattle.book_joined.specs.Joined.{joinedNumber, joinedBy, joinedOf}
-use Rattle.book.specs.Calls.{Outcome, openingNumber, openingBy, openingOf, linkNumber, linkStored, linkBy, linkOf, clockNumber, clockBy, clockOf}
-use Rattle.chain.specs.Chain.{ChainOutcome, chainNumber, chainBy, chainOf}
+use Rattle.book_joined.specs.Joined.{joinedNumber, joinedByNumber, joinedOf}
+use Rattle.book.specs.Calls.{Outcome, openingNumber, openingByNumber, openingOf, linkNumber, linkStored, linkByNumber, linkOf, clockNumber, clockByNumber, clockOf}
+use Rattle.chain.specs.Chain.{ChainOutcome, chainNumber, chainByNumber, chainOf}
 use Rattle.promises.specs.History.{Call, opening, link, clock}
 use Rattle.promises.specs.Panel.{ours, State, gives, givesChain}
 use Rattle.promises.specs.Demands.{Refused}
@@ -46,22 +46,22 @@ by-number f done same zero n = absurd (n done)
 by-number f done same (suc k) n = same k
 
 kept : (s : State) (c : Call) → (gives ours s c .number ≡ 0 → ⊥) → Same (s .book) (s .log) (gives ours s c)
-unfolding gives openingOf openingBy linkOf linkBy linkStored clockOf clockBy
+unfolding gives openingOf openingByNumber linkOf linkByNumber linkStored clockOf clockByNumber
 kept s (opening settings) =
-    by-number (λ k. openingBy k (s .book) (s .log) settings) refl (λ k. (refl, refl)) (openingNumber settings (s .log))
+    by-number (λ k. openingByNumber k (s .book) (s .log) settings) refl (λ k. (refl, refl)) (openingNumber settings (s .log))
 kept s (link tick one other) =
-    by-number (λ k. linkBy k (s .book) (s .log) tick one other) refl (λ k. (refl, refl))
+    by-number (λ k. linkByNumber k (s .book) (s .log) tick one other) refl (λ k. (refl, refl))
     (linkNumber (s .book) (s .log) tick one other)
 kept s (clock tick) =
-    by-number (λ k. clockBy k (s .book) (s .log) tick) refl (λ k. (refl, refl)) (clockNumber (s .book) (s .log) tick)
+    by-number (λ k. clockByNumber k (s .book) (s .log) tick) refl (λ k. (refl, refl)) (clockNumber (s .book) (s .log) tick)
 
 unanswered : (b : Book) (one other : ℕ) → (joinedOf b one other .number ≡ 0 → ⊥)
     → joinedOf b one other ≡ record { number = joinedOf b one other .number; yes = false; steps = 0 }
-unfolding joinedOf joinedBy
+unfolding joinedOf joinedByNumber
 unanswered b one other = go (joinedNumber b one other)
   where
-    go : (k : ℕ) → (joinedBy k b one other .number ≡ 0 → ⊥)
-        → joinedBy k b one other ≡ record { number = joinedBy k b one other .number; yes = false; steps = 0 }
+    go : (k : ℕ) → (joinedByNumber k b one other .number ≡ 0 → ⊥)
+        → joinedByNumber k b one other ≡ record { number = joinedByNumber k b one other .number; yes = false; steps = 0 }
     go zero n = absurd (n refl)
     go (suc k) n = refl
 
@@ -69,11 +69,11 @@ unchained : (s : State) (chain : List ℕ) (one other : ℕ) →
     let o : ChainOutcome = givesChain ours s chain one other in
     (o .answer .number ≡ 0 → ⊥) →
     o ≡ record { answer = record { newest = 0; cells = 0; hold = 0; number = o .answer .number }; chain = chain }
-unfolding chainOf chainBy
+unfolding chainOf chainByNumber
 unchained s chain one other = go (chainNumber (s .book) (s .log) chain one other)
   where
     go : (k : ℕ) →
-        let o : ChainOutcome = chainBy k (s .book) (s .log) chain one other in
+        let o : ChainOutcome = chainByNumber k (s .book) (s .log) chain one other in
         (o .answer .number ≡ 0 → ⊥) →
         o ≡ record { answer = record { newest = 0; cells = 0; hold = 0; number = o .answer .number }; chain = chain }
     go zero n = absurd (n refl)
@@ -81,13 +81,13 @@ unchained s chain one other = go (chainNumber (s .book) (s .log) chain one other
 
 -- ---- log places from 16,384 on
 
-opening-beyond : (k : ℕ) (b : Book) (log : List ℕ) (s : Settings) → drop logPlaces (openingBy k b log s .log) ≡ drop logPlaces log
-unfolding openingBy
+opening-beyond : (k : ℕ) (b : Book) (log : List ℕ) (s : Settings) → drop logPlaces (openingByNumber k b log s .log) ≡ drop logPlaces log
+unfolding openingByNumber
 opening-beyond zero b log s = drop-at (replicate logPlaces 0) (drop logPlaces log) logPlaces (length-replicate {A = ℕ} logPlaces 0)
 opening-beyond (suc k) b log s = refl
 
-clock-beyond : (k : ℕ) (b : Book) (log : List ℕ) (tick : ℕ) → drop logPlaces (clockBy k b log tick .log) ≡ drop logPlaces log
-unfolding clockBy
+clock-beyond : (k : ℕ) (b : Book) (log : List ℕ) (tick : ℕ) → drop logPlaces (clockByNumber k b log tick .log) ≡ drop logPlaces log
+unfolding clockByNumber
 clock-beyond zero b log tick = refl
 clock-beyond (suc k) b log tick = refl
 
@@ -100,8 +100,8 @@ pair-below : (half place count : ℕ) → place < 16 → count < 256 → startOf
 pair-below half place count p c = omega arith
 
 link-beyond : (k : ℕ) (b : Book) (log : List ℕ) (tick one other : ℕ) → linkNumber b log tick one other ≡ k
-    → drop logPlaces (linkBy k b log tick one other .log) ≡ drop logPlaces log
-unfolding linkBy linkStored
+    → drop logPlaces (linkByNumber k b log tick one other .log) ≡ drop logPlaces log
+unfolding linkByNumber linkStored
 link-beyond zero b log tick one other e =
     let t : Taken b log tick one other = taken b log tick one other e in
     let r : InRange (b .clock) = in-order-range b (t .in-order) in

@@ -9,7 +9,7 @@ use Rattle.forest_cross.proofs.Joined.{one-answer}
 use Rattle.book.specs.declared.Answer.{Answer}
 use Rattle.book.specs.Calls.{Outcome, Gives}
 use Rattle.text.specs.Output.{Written}
-use Rattle.promises.specs.Single.{AtMostOne, LentGives, Single}
+use Rattle.promises.specs.Single.{AtMostOne, FieldsGive, Single}
 
 -- two that equal a third
 equal : {A : Type 0} {x : A} → AtMostOne (λ r. r ≡ x)
@@ -22,8 +22,8 @@ both r s p q = λ i. (equal (r .0) (s .0) (p .0) (q .0) i, equal (r .1) (s .1) (
 gives : (o : Outcome) → AtMostOne {A = Answer × List ℕ} (λ r. Gives o (r .0) (r .1))
 gives o r s p q = both r s (p .answered, p .logged) (q .answered, q .logged)
 
-lent-gives : (o : Outcome) → AtMostOne (LentGives o)
-lent-gives o r s p q = λ i.
+fields-give : (o : Outcome) → AtMostOne (FieldsGive o)
+fields-give o r s p q = λ i.
     (let a = equal _ _ (p .answered) (q .answered) i in
     let b = a .book in (
       record { clock = b .clock; mounting = b .mounting; number = a .number },
@@ -60,9 +60,9 @@ single =
       opening = λ b log s. gives _;
       link = λ b log tick one other. gives _;
       clock = λ b log tick r s p q. equal r s (p .answered) (q .answered);
-      lent-opening = λ b log s. lent-gives _;
-      lent-link = λ b log tick one other. lent-gives _;
-      lent-clock = λ b log tick. lent-gives _;
+      fields-opening = λ b log s. fields-give _;
+      fields-link = λ b log tick one other. fields-give _;
+      fields-clock = λ b log tick. fields-give _;
       joined = λ b one other. equal;
       gather = λ b log ones others labels r s p q i. (
         equal (r .0) (s .0) (p .until) (q .until) i,
@@ -100,25 +100,25 @@ single =
       fresh-parents = equal;
       fresh-sizes = equal;
       fresh-labels = equal;
-      walk = λ parent most cell. equal;
-      walk-at = λ parent label most cut cell. equal;
-      root = λ parent most cell. equal;
-      roots = λ parent most. equal;
-      roots-at = λ parent label most cut. equal;
-      hang-roots = λ size a b. equal;
-      hang = λ parent size most one other. equal;
-      hang-parent = λ parent h. equal;
-      hang-size = λ size h. equal;
-      hang-label = λ label h place. equal;
-      unite = λ parent size label most place one other r s p q i. (
+      walk = λ parent limit cell. equal;
+      walk-at = λ parent label limit cut cell. equal;
+      root = λ parent limit cell. equal;
+      roots = λ parent limit. equal;
+      roots-at = λ parent label limit cut. equal;
+      merge-of-roots = λ size a b. equal;
+      hang = λ parent size limit one other. equal;
+      merge-parents = λ parent h. equal;
+      merge-sizes = λ size h. equal;
+      merge-labels = λ label h place. equal;
+      unite = λ parent size label limit place one other r s p q i. (
         equal (r .0) (s .0) (p .parents) (q .parents) i,
         equal (r .1) (s .1) (p .sizes) (q .sizes) i,
         equal (r .2) (s .2) (p .labels) (q .labels) i,
       );
-      sound = λ parent size most. equal;
+      sound = λ parent size limit. equal;
       all-within = λ numbers low end. equal;
       labels-within = λ label bound. equal;
-      number-at = λ list place. equal;
+      entry-at = λ list place. equal;
       list-entries = λ keys first r s p q. let e = one-listing p q in both r s (e .0, e .1) (refl, refl);
       joined-across = λ backward forward one other. one-answer;
     }

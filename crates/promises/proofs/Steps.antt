@@ -12,12 +12,12 @@ use Rattle.graph.proofs.Forests.{grown, same-root}
 use Rattle.book_joined.proofs.Steps.{Steps, steps-chain}
 
 -- so the steps of a forest of links chain the cells that the links chain
-pub forest-chain : {k most : ℕ} (enough : k ≤ most) {xs : List Labelled} → EndsBelow (2 ^ k) xs → {ls : List Link} → Steps (forestOf most xs .parent) 0 ls →
+pub forest-chain : {k limit : ℕ} (enough : k ≤ limit) {xs : List Labelled} → EndsBelow (2 ^ k) xs → {ls : List Link} → Steps (forestOf limit xs .parent) 0 ls →
     (a b : ℕ) → Chained ls a b ↔ Chained (map (λ x. x .link) xs) a b
 unfolding walk
-forest-chain {k} {most} enough {xs} ends steps a b =
-    let chain : Chained _ a b ↔ (walk most (forestOf most xs) a .root ≡ walk most (forestOf most xs) b .root) =
-    steps-chain most (λ c. climb-way (grown enough ends .doubles) most c enough) steps a b in
+forest-chain {k} {limit} enough {xs} ends steps a b =
+    let chain : Chained _ a b ↔ (walk limit (forestOf limit xs) a .root ≡ walk limit (forestOf limit xs) b .root) =
+    steps-chain limit (λ c. climb-way (grown enough ends .doubles) limit c enough) steps a b in
     let root = same-root enough ends a b in
     (λ h. root .0 (chain .0 h), λ h. chain .1 (root .1 h))
 

@@ -21,7 +21,7 @@ use Rattle.slides.specs.Clock.{openSlide}
 use Rattle.slides.proofs.Slides.{place-rest}
 use Rattle.book_state.specs.declared.Book.{Book}
 use Rattle.book_state.specs.Log.{labelled}
-use Rattle.window.specs.Window.{windowSlides, linksOfAge, linksFromAge, windowLinks, linksFrom}
+use Rattle.window.specs.Window.{windowSlides, linksOfAge, linksFromAge, windowLinks, linksFromLabel}
 use Rattle.promises.specs.History.{History, clockIn, openSlideIn, slideLinks, linksOf, inWindow, windowAt}
 use Rattle.promises.specs.Panel.{State}
 use Rattle.promises.proofs.Agrees.{Kept, Agrees}
@@ -32,7 +32,7 @@ use Rattle.promises.proofs.Split.{wide, in-window}
 
 -- links of one label, before others: all of them count, or none
 label-append : (j l : ℕ) (t : Bool) → ltb l j ≡ t → (ls : List Link) (xs : List Labelled) →
-    linksFrom j (map (labelled l) ls ++ xs) ≡ cond t [] ls ++ linksFrom j xs
+    linksFromLabel j (map (labelled l) ls ++ xs) ≡ cond t [] ls ++ linksFromLabel j xs
 unfolding atLeast
 label-append j l true e [] xs = refl
 label-append j l true e (m ∷ ls) xs = rw e (label-append j l true e ls xs)
@@ -40,17 +40,17 @@ label-append j l false e [] xs = refl
 label-append j l false e (m ∷ ls) xs = rw e (ap (λ ms. m ∷ ms) (label-append j l false e ls xs))
 
 module _ (j l : ℕ) (ls : List Link) (xs : List Labelled) (x y : ℕ) where
-  label-cases : Linked x y (linksFrom j (map (labelled l) ls ++ xs)) → ((j ≤ l) × Linked x y ls) ⊎ Linked x y (linksFrom j xs)
+  label-cases : Linked x y (linksFromLabel j (map (labelled l) ls ++ xs)) → ((j ≤ l) × Linked x y ls) ⊎ Linked x y (linksFromLabel j xs)
   label-cases = go (ltb l j) refl
     where
-      go : (t : Bool) → ltb l j ≡ t → Linked x y (linksFrom j (map (labelled l) ls ++ xs)) → ((j ≤ l) × Linked x y ls) ⊎ Linked x y (linksFrom j xs)
+      go : (t : Bool) → ltb l j ≡ t → Linked x y (linksFromLabel j (map (labelled l) ls ++ xs)) → ((j ≤ l) × Linked x y ls) ⊎ Linked x y (linksFromLabel j xs)
       go true e h = inr (rw (label-append j l true e ls xs) at h)
       go false e h = ⊎-map (λ k. (ltb-false l j e, k)) (λ k. k) (linked-append-cases ls (rw (label-append j l false e ls xs) at h))
 
-  label-left : j ≤ l → Linked x y ls → Linked x y (linksFrom j (map (labelled l) ls ++ xs))
-  label-left le h = rw (label-append j l false (le-ltb l j le) ls xs) (linked-left (linksFrom j xs) h)
+  label-left : j ≤ l → Linked x y ls → Linked x y (linksFromLabel j (map (labelled l) ls ++ xs))
+  label-left le h = rw (label-append j l false (le-ltb l j le) ls xs) (linked-left (linksFromLabel j xs) h)
 
-  label-right : Linked x y (linksFrom j xs) → Linked x y (linksFrom j (map (labelled l) ls ++ xs))
+  label-right : Linked x y (linksFromLabel j xs) → Linked x y (linksFromLabel j (map (labelled l) ls ++ xs))
   label-right h = rw (label-append j l (ltb l j) refl ls xs) (linked-right (cond (ltb l j) [] ls) h)
 
 -- two cells are linked in the slide of an age, among so many from an age on, and its label is j or more
@@ -63,7 +63,7 @@ record OfAge (b : Book) (log : List ℕ) (j from more x y : ℕ) : Type 0 where
 
 module _ (b : Book) (log : List ℕ) (j : ℕ) where
   -- a link of label j or more is one of an age,
-  of-age : (from more x y : ℕ) → Linked x y (linksFrom j (linksFromAge b log from more)) → OfAge b log j from more x y
+  of-age : (from more x y : ℕ) → Linked x y (linksFromLabel j (linksFromAge b log from more)) → OfAge b log j from more x y
   unfolding linksFromAge atLeast
   of-age from zero x y h = absurd (nothing-linked h)
   of-age from (suc more) x y h =
@@ -74,7 +74,7 @@ module _ (b : Book) (log : List ℕ) (j : ℕ) where
       later i = record { age = i .age; least = omega arith; below = omega arith; label = i .label; linked = i .linked }
 
   -- and the links of such an age are there
-  age-of : (from more x y : ℕ) → OfAge b log j from more x y → Linked x y (linksFrom j (linksFromAge b log from more))
+  age-of : (from more x y : ℕ) → OfAge b log j from more x y → Linked x y (linksFromLabel j (linksFromAge b log from more))
   unfolding linksFromAge
   age-of from zero x y i = absurd (omega arith)
   age-of from (suc more) x y i =
@@ -84,7 +84,7 @@ module _ (b : Book) (log : List ℕ) (j : ℕ) where
       (eq-or-lt-of-le (i .least))
 
   -- there is no label above n
-  pub none-above : b .clock .n < j → (x y : ℕ) → Linked x y (linksFrom j (windowLinks b log)) → ⊥
+  pub none-above : b .clock .n < j → (x y : ℕ) → Linked x y (linksFromLabel j (windowLinks b log)) → ⊥
   unfolding windowLinks
   none-above over x y h = let i : OfAge b log j 0 (windowSlides b) x y = of-age 0 (windowSlides b) x y h in omega arith
 
@@ -108,7 +108,7 @@ module _ {h : History} {s : State} (agrees : Agrees h s) where
   clock-is = (ap openSlide (agrees .clock), ap (λ c. c .n) (agrees .clock))
 
   module _ (c : ℕ) where
-    pub book-window : Relinks (linksFrom (suc c) (windowLinks (s .book) (s .log))) (linksOf (windowAt h (openSlideIn h + c)))
+    pub book-window : Relinks (linksFromLabel (suc c) (windowLinks (s .book) (s .log))) (linksOf (windowAt h (openSlideIn h + c)))
     unfolding windowLinks
     book-window x y l = found (of-age (s .book) (s .log) (suc c) 0 (windowSlides (s .book)) x y l)
       where
@@ -119,7 +119,7 @@ module _ {h : History} {s : State} (agrees : Agrees h s) where
             of-slide _ t (h .links) (rw (le-leb t (openSlideIn h + c) (omega arith)) (lt-ltb (openSlideIn h + c) (t + h .settings .n) (omega arith)))
             x y (turned-links _ x y (rw (links-of-age (i .age) t (omega arith) (omega arith)) at (i .linked)))
 
-    pub window-book : Relinks (linksOf (windowAt h (openSlideIn h + c))) (linksFrom (suc c) (windowLinks (s .book) (s .log)))
+    pub window-book : Relinks (linksOf (windowAt h (openSlideIn h + c))) (linksFromLabel (suc c) (windowLinks (s .book) (s .log)))
     unfolding windowLinks
     window-book x y l = age-of (s .book) (s .log) (suc c) 0 (windowSlides (s .book)) x y (found (in-slide _ (agrees .sensible .falling) x y l))
       where

@@ -16,14 +16,14 @@ use Rattle.forest_check.specs.Sound.{every}
 use Rattle.book_state.specs.declared.Book.{Book}
 use Rattle.book_joined.specs.declared.JoinedAnswer.{JoinedAnswer}
 use Rattle.book_state.specs.Arrays.{united, unitedAll}
-use Rattle.book_state.specs.Log.{linksFrom, chunkLinks, stored}
+use Rattle.book_state.specs.Log.{linksAt, chunkLinks, stored}
 use Rattle.book_state.specs.Order.{inOrder, inOrderOf}
-use Rattle.book_time.specs.Time.{cleared, emptied, stayed, backwardOf, turned, movedBy, movedBook}
+use Rattle.book_time.specs.Time.{cleared, emptied, stayed, backwardOf, turned, movedByChunk, movedBook}
 use Rattle.book_state.specs.Numbers.{firstOf, has, logPlaces}
-use Rattle.book_joined.specs.Joined.{forwardSteps, backwardSteps, stepLinks, fourWalks, joinedNumber, joinedBy, joinedOf}
-use Rattle.book.specs.Calls.{Outcome, openingNumber, openingBy, openingOf, linkNumber, linkStored, linkBy, linkOf, clockNumber, clockBy, clockOf}
+use Rattle.book_joined.specs.Joined.{parentSteps, parentStepsAt, stepLinks, fourWalks, joinedNumber, joinedByNumber, joinedOf}
+use Rattle.book.specs.Calls.{Outcome, openingNumber, openingByNumber, openingOf, linkNumber, linkStored, linkByNumber, linkOf, clockNumber, clockByNumber, clockOf}
 use Rattle.window.specs.Window.{linksFromAge, windowLinks, highest}
-use Rattle.chain.specs.Chain.{ChainOutcome, chainPlaces, chainNumber, chainBy, chainOf}
+use Rattle.chain.specs.Chain.{ChainOutcome, chainPlaces, chainNumber, chainByNumber, chainOf}
 
 -- a call, or a question with the answer that document 01 gives
 pub data Step : Type 0 where
@@ -128,5 +128,5 @@ script =
     ∷ []
 
 pub cases : (b : Book) (rest : List ℕ) → given (record { book = b; log = replicate logPlaces 0 ++ rest }) script ≡ stated script
-unfolding given stated openingOf linkOf clockOf joinedOf chainOf openingNumber openingBy stored linkNumber linkStored linkBy clockNumber clockBy forwardSteps backwardSteps stepLinks fourWalks joinedNumber joinedBy chainNumber chainBy highest windowLinks linksFromAge atLeast trailOf firstOf has cleared emptied stayed backwardOf turned movedBy movedBook inOrderOf linksFrom chunkLinks united unitedAll every countFrom notBefore slideOf placeOf movedTo clockInRange lorryCellOver climb chains
+unfolding given stated openingOf linkOf clockOf joinedOf chainOf openingNumber openingByNumber stored linkNumber linkStored linkByNumber clockNumber clockByNumber parentSteps parentStepsAt stepLinks fourWalks joinedNumber joinedByNumber chainNumber chainByNumber highest windowLinks linksFromAge atLeast trailOf firstOf has cleared emptied stayed backwardOf turned movedByChunk movedBook inOrderOf linksAt chunkLinks united unitedAll every countFrom notBefore slideOf placeOf movedTo clockInRange lorryCellOver climb chains
 cases b rest = refl

@@ -15,7 +15,7 @@ use Rattle.settings.specs.declared.Settings.{Settings}
 use Rattle.slides.specs.Clock.{notBefore, slideOf}
 use Rattle.book_state.specs.declared.Book.{Book}
 use Rattle.book_joined.specs.declared.JoinedAnswer.{JoinedAnswer}
-use Rattle.book_state.specs.Arrays.{most}
+use Rattle.book_state.specs.Arrays.{stepLimit}
 use Rattle.book_state.specs.Numbers.{firstOf, unless, has, logPlaces, areCells}
 use Rattle.file.specs.Format.{readNumber, readOf, writeNumber, outputOf}
 use Rattle.file_play.specs.Play.{Play, playFrom, recordGives}
@@ -46,15 +46,15 @@ abbrev pub roomIn : State → Bool
 roomIn s = has logPlaces (s .log)
 
 -- calls after which there is a history
-abbrev pub Told : State → List Call → History → Type 0
-Told s calls h = historyOf (roomIn s) calls ≡ some h
+abbrev pub HasHistory : State → List Call → History → Type 0
+HasHistory s calls h = historyOf (roomIn s) calls ≡ some h
 
 -- 0. the number that the book gives is the number that the history gives; an opening's also where there is no history yet
 pub record Table (p : Panel) : Type 0 where
   pub openings : (s : State) (settings : Settings) →
       gives p s (opening settings) .number ≡ firstOf (takenNumber settings ∷ unless (roomIn s) 6 ∷ [])
-  pub calls : (s : State) (cs : List Call) (h : History) → Told s cs h → (c : Call) → gives p (after p s cs) c .number ≡ numberIn (roomIn s) h c
-  pub asks : (s : State) (cs : List Call) (h : History) → Told s cs h → (one other : ℕ) →
+  pub calls : (s : State) (cs : List Call) (h : History) → HasHistory s cs h → (c : Call) → gives p (after p s cs) c .number ≡ numberIn (roomIn s) h c
+  pub asks : (s : State) (cs : List Call) (h : History) → HasHistory s cs h → (one other : ℕ) →
       p .joinedGives (after p s cs .book) one other .number ≡ unless (areCells one other) 3
 
 -- 1. for every book, log and chain buffer, altered ones too: a number that is not 0 leaves them equal and the other fields 0, and
@@ -89,44 +89,44 @@ pub record FilesRefused : Type 0 where
 
 -- the two forests of the history, folded as document 01 says, and the cut
 abbrev pub forwardForest : History → Forest
-forwardForest h = forestOf most (forwardLinks h)
+forwardForest h = forestOf stepLimit (forwardLinks h)
 
 abbrev pub backwardForest : History → Forest
-backwardForest h = forestOf most (backwardLinks h)
+backwardForest h = forestOf stepLimit (backwardLinks h)
 
 abbrev pub cutIn : History → ℕ
 cutIn h = placeIn h + 1
 
 -- a cell's steps in the two forests
-abbrev pub backwardSteps : History → ℕ → ℕ
-backwardSteps h c = walkAt most (backwardForest h) (cutIn h) c .steps
+abbrev pub backwardStepCount : History → ℕ → ℕ
+backwardStepCount h c = walkAt stepLimit (backwardForest h) (cutIn h) c .steps
 
-abbrev pub forwardSteps : History → ℕ → ℕ
-forwardSteps h c = walk most (forwardForest h) c .steps
+abbrev pub forwardStepCount : History → ℕ → ℕ
+forwardStepCount h c = walk stepLimit (forwardForest h) c .steps
 
 -- both walks of a cell end, and within 10 steps: where they stop there is no further step to take
 pub record WalksEnd (h : History) (c : ℕ) : Type 0 where
-  pub backward : parentAt (backwardForest h) (cutIn h) (walkAt most (backwardForest h) (cutIn h) c .root) ≡ walkAt most (backwardForest h) (cutIn h) c .root
-  pub forward : forwardForest h .parent (walk most (forwardForest h) c .root) ≡ walk most (forwardForest h) c .root
-  pub backward-short : backwardSteps h c ≤ 10
-  pub forward-short : forwardSteps h c ≤ 10
+  pub backward : parentAt (backwardForest h) (cutIn h) (walkAt stepLimit (backwardForest h) (cutIn h) c .root) ≡ walkAt stepLimit (backwardForest h) (cutIn h) c .root
+  pub forward : forwardForest h .parent (walk stepLimit (forwardForest h) c .root) ≡ walk stepLimit (forwardForest h) c .root
+  pub backward-short : backwardStepCount h c ≤ 10
+  pub forward-short : forwardStepCount h c ≤ 10
 
 -- 2. joined: yes exactly when the two are the same or links of the current window chain them; the count of forest steps is
 -- the rule's, never above 40
 pub record Joined (p : Panel) : Type 0 where
-  pub chained : (s : State) (cs : List Call) (h : History) → Told s cs h → (one other : ℕ) → areCells one other ≡ true →
+  pub chained : (s : State) (cs : List Call) (h : History) → HasHistory s cs h → (one other : ℕ) → areCells one other ≡ true →
       (p .joinedGives (after p s cs .book) one other .yes ≡ true) ↔ Chained (windowOf h) one other
-  pub steps : (s : State) (cs : List Call) (h : History) → Told s cs h → (one other : ℕ) → areCells one other ≡ true →
+  pub steps : (s : State) (cs : List Call) (h : History) → HasHistory s cs h → (one other : ℕ) → areCells one other ≡ true →
       p .joinedGives (after p s cs .book) one other .steps
-      ≡ backwardSteps h one + backwardSteps h other + forwardSteps h one + forwardSteps h other
-  pub few : (s : State) (cs : List Call) (h : History) → Told s cs h → (one other : ℕ) →
+      ≡ backwardStepCount h one + backwardStepCount h other + forwardStepCount h one + forwardStepCount h other
+  pub few : (s : State) (cs : List Call) (h : History) → HasHistory s cs h → (one other : ℕ) →
       p .joinedGives (after p s cs .book) one other .steps ≤ 40
-  pub ends : (s : State) (cs : List Call) (h : History) → Told s cs h → (c : ℕ) → WalksEnd h c
+  pub ends : (s : State) (cs : List Call) (h : History) → HasHistory s cs h → (c : ℕ) → WalksEnd h c
 
 -- what a chain call that gives 0 hands back: at the front of the buffer a chain from the first cell to the second over links of
 -- slides L to k, with the fewest links, and among those the first by cell numbers; later places keep what they had.
 -- Hold = L + n - 1 - k
-pub record Handed (h : History) (chain : List ℕ) (one other : ℕ) (o : ChainOutcome) : Type 0 where
+pub record ChainGiven (h : History) (chain : List ℕ) (one other : ℕ) (o : ChainOutcome) : Type 0 where
   pub best : Best (linksSince h (o .answer .newest)) one other (take (o .answer .cells) (o .chain))
   pub long : length (take (o .answer .cells) (o .chain)) ≡ o .answer .cells
   pub rest : drop (o .answer .cells) (o .chain) ≡ drop (o .answer .cells) chain
@@ -134,7 +134,7 @@ pub record Handed (h : History) (chain : List ℕ) (one other : ℕ) (o : ChainO
 
 -- of two different cells: L is the largest slide such that links of slides L to k chain them, and for as many further closings as
 -- the hold says they stay joined if nothing is logged, and not for one more
-pub record Apart (p : Panel) (s : State) (h : History) (one other : ℕ) (answer : ChainAnswer) : Type 0 where
+pub record DifferentCells (p : Panel) (s : State) (h : History) (one other : ℕ) (answer : ChainAnswer) : Type 0 where
   pub chained : Chained (linksSince h (answer .newest)) one other
   pub largest : (l : ℕ) → answer .newest < l → Chained (linksSince h l) one other → ⊥
   pub few : answer .hold < h .settings .n
@@ -156,20 +156,20 @@ pub record Answers (p : Panel) (s : State) (h : History) (chain : List ℕ) (one
   pub no-trail : (givesChain p s chain one other .answer .number ≡ 7) ↔ (Chained (windowOf h) one other → ⊥)
   pub done : (givesChain p s chain one other .answer .number ≡ 0) ↔ Chained (windowOf h) one other
   pub joins : (p .joinedGives (s .book) one other .yes ≡ true) ↔ (givesChain p s chain one other .answer .number ≡ 0)
-  pub handed : givesChain p s chain one other .answer .number ≡ 0 → Handed h chain one other (givesChain p s chain one other)
-  pub apart : givesChain p s chain one other .answer .number ≡ 0 → (one ≡ other → ⊥) →
-      Apart p s h one other (givesChain p s chain one other .answer)
+  pub handed : givesChain p s chain one other .answer .number ≡ 0 → ChainGiven h chain one other (givesChain p s chain one other)
+  pub different : givesChain p s chain one other .answer .number ≡ 0 → (one ≡ other → ⊥) →
+      DifferentCells p s h one other (givesChain p s chain one other .answer)
   pub itself : one ≡ other → Itself h one (givesChain p s chain one other)
 
 -- 3. chain: 6 exactly for a chain buffer that is too short, then 3 exactly where one is no cell, then 7 exactly where there is no
 -- trail, and never 1 or 8; and what it answers
 pub record Chain (p : Panel) : Type 0 where
-  pub number : (s : State) (cs : List Call) (h : History) → Told s cs h → (chain : List ℕ) (one other : ℕ) →
+  pub number : (s : State) (cs : List Call) (h : History) → HasHistory s cs h → (chain : List ℕ) (one other : ℕ) →
       givesChain p (after p s cs) chain one other .answer .number
       ≡ firstOf
       (unless (has chainPlaces chain) 6
       ∷ unless (areCells one other) 3
       ∷ unless (chains (windowOf h) one other) 7
       ∷ [])
-  pub answers : (s : State) (cs : List Call) (h : History) → Told s cs h → (chain : List ℕ) → has chainPlaces chain ≡ true →
+  pub answers : (s : State) (cs : List Call) (h : History) → HasHistory s cs h → (chain : List ℕ) → has chainPlaces chain ≡ true →
       (one other : ℕ) → areCells one other ≡ true → Answers p (after p s cs) h chain one other

@@ -89,20 +89,20 @@ added h (link tick one other) = withLink (withTime h tick) (lorryLink h one othe
 added h (clock tick) = withTime h tick
 
 -- by the number: a refused call adds nothing
-unfoldable pub addedBy : ℕ → History → Call → History
-addedBy zero h c = added h c
-addedBy (suc k) h c = h
+unfoldable pub addedByNumber : ℕ → History → Call → History
+addedByNumber zero h c = added h c
+addedByNumber (suc k) h c = h
 
 -- before the first opening that gives 0 there is no history
-unfoldable pub firstBy : ℕ → Settings → Option History
-firstBy zero s = some (begun s)
-firstBy (suc k) s = none
+unfoldable pub firstByNumber : ℕ → Settings → Option History
+firstByNumber zero s = some (begun s)
+firstByNumber (suc k) s = none
 
 unfoldable pub oneMore : Bool → Option History → Call → Option History
-oneMore room none (opening s) = firstBy (firstOf (takenNumber s ∷ unless room 6 ∷ [])) s
+oneMore room none (opening s) = firstByNumber (firstOf (takenNumber s ∷ unless room 6 ∷ [])) s
 oneMore room none (link tick one other) = none
 oneMore room none (clock tick) = none
-oneMore room (some h) c = some (addedBy (numberIn room h c) h c)
+oneMore room (some h) c = some (addedByNumber (numberIn room h c) h c)
 
 -- the history of calls, one after the other; room: the log has its 16,384 places
 unfoldable pub historyFrom : Bool → Option History → List Call → Option History

@@ -10,8 +10,8 @@ use Rattle.cells.specs.Cell.{mirror, lorryCell}
 use Rattle.slides.specs.Clock.{notBefore, slideOf, openSlide, chunkOf, placeOf, started, movedTo, clockInRange}
 use Rattle.slides.specs.declared.Clock.{Clock}
 use Rattle.forest.specs.Arrays.{freshParents, freshSizes, freshLabels, walkOf, walkAtOf, rootsOf, rootsAtOf}
-use Rattle.forest_unite.specs.United.{hangRoots, hangOf, hungParents, hungSizes, hungLabels, United}
-use Rattle.forest_unite.specs.declared.Hang.{Hang}
+use Rattle.forest_unite.specs.United.{mergeOfRoots, mergeOf, mergedParents, mergedSizes, mergedLabels, United}
+use Rattle.forest_unite.specs.declared.Merge.{Merge}
 use Rattle.forest_check.specs.Sound.{every, within, soundOf, labelsWithin}
 use Rattle.buckets.specs.Listed as lists
 use Rattle.forest_cross.specs.Across.{JoinedAcross}
@@ -25,7 +25,7 @@ use Rattle.listing.specs.declared.Listed.{Listed}
 use Rattle.listing.specs.Listing.{Lists, listingOf}
 use Rattle.book_state.specs.declared.Book.{Book}
 use Rattle.book.specs.declared.Answer.{Answer}
-use Rattle.book.specs.declared.lent.LentAnswer.{LentAnswer}
+use Rattle.book.specs.declared.fields.FieldsAnswer.{FieldsAnswer}
 use Rattle.book_state.specs.Arrays.{Arrays, unitedAll}
 use Rattle.book_state.specs.Log.{halfOf, spotOf, storedIn}
 use Rattle.book_state.specs.Order.{neverOpened, bookOf, inOrderOf}
@@ -34,7 +34,7 @@ use Rattle.window.specs.Gathered.{Put, linksIn}
 use Rattle.window.specs.Agree.{agreeFrom}
 use Rattle.book_time.specs.Time.{Fresh, movedBook}
 use Rattle.book_joined.specs.Joined.{joinedOf}
-use Rattle.book.specs.Calls.{Outcome, Gives, GivesLent, openingOf, linkOf, clockOf}
+use Rattle.book.specs.Calls.{Outcome, Gives, GivesFields, openingOf, linkOf, clockOf}
 use Rattle.graph.specs.Trail.{trailOf}
 use Rattle.chain_fewest.specs.Lists.{linksOf}
 use Rattle.chain_fewest.specs.Best.{Given}
@@ -46,11 +46,11 @@ abbrev pub AtMostOne : {A : Type 0} → (A → Type 0) → Type 0
 AtMostOne {A} allowed = (r s : A) → allowed r → allowed s → r ≡ s
 
 -- what a call over lent fields gives: its answer, then counts, forward parents and sizes, backward parents, sizes and labels, log
-abbrev pub LentResult : Type 0
-LentResult = LentAnswer × List ℕ × List ℕ × List ℕ × List ℕ × List ℕ × List ℕ × List ℕ
+abbrev pub FieldsResult : Type 0
+FieldsResult = FieldsAnswer × List ℕ × List ℕ × List ℕ × List ℕ × List ℕ × List ℕ × List ℕ
 
-abbrev pub LentGives : Outcome → LentResult → Type 0
-LentGives o r = GivesLent o (r .0) (r .1) (r .2) (r .3) (r .4) (r .5) (r .6) (r .7)
+abbrev pub FieldsGive : Outcome → FieldsResult → Type 0
+FieldsGive o r = GivesFields o (r .0) (r .1) (r .2) (r .3) (r .4) (r .5) (r .6) (r .7)
 
 pub record Single : Type 0 where
   -- state
@@ -69,9 +69,9 @@ pub record Single : Type 0 where
   pub link : (b : Book) (log : List ℕ) (tick one other : ℕ) →
       AtMostOne {A = Answer × List ℕ} (λ r. Gives (linkOf b log tick one other) (r .0) (r .1))
   pub clock : (b : Book) (log : List ℕ) (tick : ℕ) → AtMostOne (λ r. Gives (clockOf b log tick) r log)
-  pub lent-opening : (b : Book) (log : List ℕ) (s : Settings) → AtMostOne (LentGives (openingOf b log s))
-  pub lent-link : (b : Book) (log : List ℕ) (tick one other : ℕ) → AtMostOne (LentGives (linkOf b log tick one other))
-  pub lent-clock : (b : Book) (log : List ℕ) (tick : ℕ) → AtMostOne (LentGives (clockOf b log tick))
+  pub fields-opening : (b : Book) (log : List ℕ) (s : Settings) → AtMostOne (FieldsGive (openingOf b log s))
+  pub fields-link : (b : Book) (log : List ℕ) (tick one other : ℕ) → AtMostOne (FieldsGive (linkOf b log tick one other))
+  pub fields-clock : (b : Book) (log : List ℕ) (tick : ℕ) → AtMostOne (FieldsGive (clockOf b log tick))
   -- joined, by value and over lent fields
   pub joined : (b : Book) (one other : ℕ) → AtMostOne (λ r. r ≡ joinedOf b one other)
   -- window
@@ -124,26 +124,26 @@ pub record Single : Type 0 where
   pub fresh-parents : AtMostOne (λ r. r ≡ freshParents 1024)
   pub fresh-sizes : AtMostOne (λ r. r ≡ freshSizes 1024)
   pub fresh-labels : AtMostOne (λ r. r ≡ freshLabels 1024)
-  pub walk : (parent : List ℕ) (most cell : ℕ) → AtMostOne (λ r. r ≡ walkOf parent most cell)
-  pub walk-at : (parent label : List ℕ) (most cut cell : ℕ) → AtMostOne (λ r. r ≡ walkAtOf parent label most cut cell)
-  pub root : (parent : List ℕ) (most cell : ℕ) → AtMostOne (λ r. r ≡ walkOf parent most cell .root)
-  pub roots : (parent : List ℕ) (most : ℕ) → AtMostOne (λ r. r ≡ rootsOf parent most 1024)
-  pub roots-at : (parent label : List ℕ) (most cut : ℕ) → AtMostOne (λ r. r ≡ rootsAtOf parent label most cut 1024)
+  pub walk : (parent : List ℕ) (limit cell : ℕ) → AtMostOne (λ r. r ≡ walkOf parent limit cell)
+  pub walk-at : (parent label : List ℕ) (limit cut cell : ℕ) → AtMostOne (λ r. r ≡ walkAtOf parent label limit cut cell)
+  pub root : (parent : List ℕ) (limit cell : ℕ) → AtMostOne (λ r. r ≡ walkOf parent limit cell .root)
+  pub roots : (parent : List ℕ) (limit : ℕ) → AtMostOne (λ r. r ≡ rootsOf parent limit 1024)
+  pub roots-at : (parent label : List ℕ) (limit cut : ℕ) → AtMostOne (λ r. r ≡ rootsAtOf parent label limit cut 1024)
   -- uniting
-  pub hang-roots : (size : List ℕ) (a b : ℕ) → AtMostOne (λ r. r ≡ hangRoots size a b)
-  pub hang : (parent size : List ℕ) (most one other : ℕ) → AtMostOne (λ r. r ≡ hangOf parent size most one other)
-  pub hang-parent : (parent : List ℕ) (h : Hang) → AtMostOne (λ r. r ≡ hungParents parent h)
-  pub hang-size : (size : List ℕ) (h : Hang) → AtMostOne (λ r. r ≡ hungSizes size h)
-  pub hang-label : (label : List ℕ) (h : Hang) (place : ℕ) → AtMostOne (λ r. r ≡ hungLabels label h place)
-  pub unite : (parent size label : List ℕ) (most place one other : ℕ) →
+  pub merge-of-roots : (size : List ℕ) (a b : ℕ) → AtMostOne (λ r. r ≡ mergeOfRoots size a b)
+  pub hang : (parent size : List ℕ) (limit one other : ℕ) → AtMostOne (λ r. r ≡ mergeOf parent size limit one other)
+  pub merge-parents : (parent : List ℕ) (h : Merge) → AtMostOne (λ r. r ≡ mergedParents parent h)
+  pub merge-sizes : (size : List ℕ) (h : Merge) → AtMostOne (λ r. r ≡ mergedSizes size h)
+  pub merge-labels : (label : List ℕ) (h : Merge) (place : ℕ) → AtMostOne (λ r. r ≡ mergedLabels label h place)
+  pub unite : (parent size label : List ℕ) (limit place one other : ℕ) →
       AtMostOne {A = List ℕ × List ℕ × List ℕ}
-      (λ r. United parent size label most one other place (r .0) (r .1) (r .2))
+      (λ r. United parent size label limit one other place (r .0) (r .1) (r .2))
   -- soundness
-  pub sound : (parent size : List ℕ) (most : ℕ) → AtMostOne (λ r. r ≡ soundOf parent size most)
+  pub sound : (parent size : List ℕ) (limit : ℕ) → AtMostOne (λ r. r ≡ soundOf parent size limit)
   pub all-within : (numbers : List ℕ) (low end : ℕ) → AtMostOne (λ r. r ≡ every (within low end) 0 numbers)
   pub labels-within : (label : List ℕ) (bound : ℕ) → AtMostOne (λ r. r ≡ labelsWithin label bound)
   -- lists
-  pub number-at : (list : List ℕ) (place : ℕ) → AtMostOne (λ r. r ≡ getD list place 0)
+  pub entry-at : (list : List ℕ) (place : ℕ) → AtMostOne (λ r. r ≡ getD list place 0)
   pub list-entries : (keys first : List ℕ) →
       AtMostOne {A = List ℕ × List ℕ} (λ r. lists.Listed keys (length first) 0 (r .0) (r .1))
   -- crossing

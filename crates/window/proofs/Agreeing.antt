@@ -6,7 +6,7 @@ use native.Mathlib.Omega.{arith}
 use borrow.Author.Tests.{eq-eqb, ne-eqb}
 use Rattle.forest.specs.declared.Walk.{Walk}
 use Rattle.forest.specs.Arrays.{walkAtOf}
-use Rattle.book_state.specs.Arrays.{most}
+use Rattle.book_state.specs.Arrays.{stepLimit}
 use Rattle.window.specs.Agree.{agreeFrom}
 
 module _ (ps ls : List ℕ) (one other : ℕ) where
@@ -17,14 +17,14 @@ module _ (ps ls : List ℕ) (one other : ℕ) where
 
   module _ {v w : Walk} where
     pub agree-here : (cut : ℕ) → 0 < cut
-        → v ≡ walkAtOf ps ls most cut one → w ≡ walkAtOf ps ls most cut other → v .root ≡ w .root
+        → v ≡ walkAtOf ps ls stepLimit cut one → w ≡ walkAtOf ps ls stepLimit cut other → v .root ≡ w .root
         → agreeFrom cut ps ls one other ≡ cut
     unfolding agreeFrom
     agree-here zero h p q e = absurd (omega arith)
     agree-here (suc cut) h p q e = rw (eq-eqb _ _ (rw (p, q) at e))
 
     pub agree-lower : (cut : ℕ) → 0 < cut
-        → v ≡ walkAtOf ps ls most cut one → w ≡ walkAtOf ps ls most cut other → (v .root ≡ w .root → ⊥)
+        → v ≡ walkAtOf ps ls stepLimit cut one → w ≡ walkAtOf ps ls stepLimit cut other → (v .root ≡ w .root → ⊥)
         → agreeFrom cut ps ls one other ≡ agreeFrom (cut - 1) ps ls one other
     unfolding agreeFrom
     agree-lower zero h p q n = absurd (omega arith)

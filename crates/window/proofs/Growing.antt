@@ -7,7 +7,7 @@ use native.Mathlib.Omega.{arith}
 use lib.ListN.{getD}
 use Rattle.graph.specs.Forest.{Labelled}
 use Rattle.forest_unite.specs.United.{United}
-use Rattle.book_state.specs.Arrays.{most, Arrays, arraysOf, united, unitedAll}
+use Rattle.book_state.specs.Arrays.{stepLimit, Arrays, arraysOf, united, unitedAll}
 use Rattle.book_state.specs.Log.{labelled}
 use Rattle.window.specs.Gathered.{linksOn, linksIn}
 
@@ -27,7 +27,7 @@ module _ {ones others labels : List ℕ} {count : ℕ} {before : Arrays} where
   growing-begin = let all : count - 0 ≡ count = omega arith in record { within = omega arith; left = rw all }
 
   pub growing-more : {ps ss ls ps′ ss′ ls′ : List ℕ} {i : ℕ} → Growing ones others labels count before (arraysOf ps ss ls) i → i < count
-      → United ps ss ls most (getD ones i 0) (getD others i 0) (getD labels i 0) ps′ ss′ ls′
+      → United ps ss ls stepLimit (getD ones i 0) (getD others i 0) (getD labels i 0) ps′ ss′ ls′
       → Growing ones others labels count before (arraysOf ps′ ss′ ls′) (i + 1)
   unfolding linksOn united unitedAll
   growing-more {ps} {ss} {ls} {ps′} {ss′} {ls′} {i} r h u = record { within = omega arith; left = sym one ∙ r .left }

@@ -15,68 +15,68 @@ use Rattle.graph.specs.Link.{Linked, here, there, Chained, same, chains}
 use Rattle.graph.specs.Forest.{Labelled, atLeast}
 use Rattle.graph.proofs.Chains.{chained-relink, chained-alone, chains-true, chains-false}
 use Rattle.book_state.specs.declared.Book.{Book}
-use Rattle.window.specs.Window.{windowLinks, linksFrom, highest}
+use Rattle.window.specs.Window.{windowLinks, linksFromLabel, highest}
 use Rattle.window.proofs.WindowLinks.{window-all, window-none}
 
 -- with a lower label there are more links
-linked-lower : (xs : List Labelled) {i j a b : ℕ} → i ≤ j → Linked a b (linksFrom j xs) → Linked a b (linksFrom i xs)
+linked-lower : (xs : List Labelled) {i j a b : ℕ} → i ≤ j → Linked a b (linksFromLabel j xs) → Linked a b (linksFromLabel i xs)
 unfolding atLeast
 linked-lower [] h = λ l. l
 linked-lower (x ∷ xs) {i} {j} {a} {b} h = go (decLt (x .label) i) (decLt (x .label) j) (linked-lower xs h)
   where
-    kept : (Linked a b (linksFrom j xs) → Linked a b (linksFrom i xs))
-        → Linked a b (x .link ∷ linksFrom j xs) → Linked a b (x .link ∷ linksFrom i xs)
+    kept : (Linked a b (linksFromLabel j xs) → Linked a b (linksFromLabel i xs))
+        → Linked a b (x .link ∷ linksFromLabel j xs) → Linked a b (x .link ∷ linksFromLabel i xs)
     kept on (here e) = here e
     kept on (there l) = there (on l)
 
-    go : Dec (x .label < i) → Dec (x .label < j) → (Linked a b (linksFrom j xs) → Linked a b (linksFrom i xs))
-        → Linked a b (linksFrom j (x ∷ xs)) → Linked a b (linksFrom i (x ∷ xs))
+    go : Dec (x .label < i) → Dec (x .label < j) → (Linked a b (linksFromLabel j xs) → Linked a b (linksFromLabel i xs))
+        → Linked a b (linksFromLabel j (x ∷ xs)) → Linked a b (linksFromLabel i (x ∷ xs))
     go (yes p) (yes q) on = rw (lt-ltb (x .label) i p, lt-ltb (x .label) j q) on
     go (yes p) (no q) on = absurd (omega arith)
     go (no p) (yes q) on = rw (le-ltb (x .label) i (omega arith), lt-ltb (x .label) j q) (λ l. there (on l))
     go (no p) (no q) on = rw (le-ltb (x .label) i (omega arith), le-ltb (x .label) j (omega arith)) (kept on)
 
 module _ (xs : List Labelled) (a b : ℕ) where
-  pub chained-lower : {i j : ℕ} → i ≤ j → Chained (linksFrom j xs) a b → Chained (linksFrom i xs) a b
+  pub chained-lower : {i j : ℕ} → i ≤ j → Chained (linksFromLabel j xs) a b → Chained (linksFromLabel i xs) a b
   chained-lower h = chained-relink (λ x y. linked-lower xs h)
 
   -- a label from which on links chain the two is not above the highest
-  pub chained-highest : (j i : ℕ) → i ≤ j → Chained (linksFrom i xs) a b → i ≤ highest j xs a b
+  pub chained-highest : (j i : ℕ) → i ≤ j → Chained (linksFromLabel i xs) a b → i ≤ highest j xs a b
   unfolding highest
   chained-highest zero i h x = h
-  chained-highest (suc j) i h x = go (chains (linksFrom (suc j) xs) a b) refl (λ l. chained-highest j i l x)
+  chained-highest (suc j) i h x = go (chains (linksFromLabel (suc j) xs) a b) refl (λ l. chained-highest j i l x)
     where
-      go : (t : Bool) → chains (linksFrom (suc j) xs) a b ≡ t → (i ≤ j → i ≤ highest j xs a b) → i ≤ cond t (suc j) (highest j xs a b)
+      go : (t : Bool) → chains (linksFromLabel (suc j) xs) a b ≡ t → (i ≤ j → i ≤ highest j xs a b) → i ≤ cond t (suc j) (highest j xs a b)
       go true e on = h
       go false e on = ⊎-elim (λ q. absurd (chains-false _ a b e (rw q at x))) (λ l. on (omega arith)) (eq-or-lt-of-le h)
 
   -- from the highest label on, and from any below it, links chain the two
-  pub highest-chained : (j i : ℕ) → 1 ≤ i → i ≤ highest j xs a b → Chained (linksFrom i xs) a b
+  pub highest-chained : (j i : ℕ) → 1 ≤ i → i ≤ highest j xs a b → Chained (linksFromLabel i xs) a b
   unfolding highest
   highest-chained zero i h l = absurd (omega arith)
-  highest-chained (suc j) i h l = go (chains (linksFrom (suc j) xs) a b) refl (highest-chained j i h) l
+  highest-chained (suc j) i h l = go (chains (linksFromLabel (suc j) xs) a b) refl (highest-chained j i h) l
     where
-      go : (t : Bool) → chains (linksFrom (suc j) xs) a b ≡ t → (i ≤ highest j xs a b → Chained (linksFrom i xs) a b)
-          → i ≤ cond t (suc j) (highest j xs a b) → Chained (linksFrom i xs) a b
+      go : (t : Bool) → chains (linksFromLabel (suc j) xs) a b ≡ t → (i ≤ highest j xs a b → Chained (linksFromLabel i xs) a b)
+          → i ≤ cond t (suc j) (highest j xs a b) → Chained (linksFromLabel i xs) a b
       go true e on l = chained-lower l (chains-true _ a b e)
       go false e on l = on l
 
   -- links from a label on chain the two exactly when the label is not above the highest
-  pub highest-exactly : (j i : ℕ) → 1 ≤ i → i ≤ j → Chained (linksFrom i xs) a b ↔ (i ≤ highest j xs a b)
+  pub highest-exactly : (j i : ℕ) → 1 ≤ i → i ≤ j → Chained (linksFromLabel i xs) a b ↔ (i ≤ highest j xs a b)
   highest-exactly j i low high = (chained-highest j i high, highest-chained j i low)
 
   pub highest-most : (j : ℕ) → highest j xs a b ≤ j
   unfolding highest
   highest-most zero = omega arith
-  highest-most (suc j) = go (chains (linksFrom (suc j) xs) a b) (highest-most j)
+  highest-most (suc j) = go (chains (linksFromLabel (suc j) xs) a b) (highest-most j)
     where
       go : (t : Bool) → highest j xs a b ≤ j → cond t (suc j) (highest j xs a b) ≤ suc j
       go true h = omega arith
       go false h = omega arith
 
   -- where links from no label above m on chain the two, the highest is not above m
-  pub highest-below : (j m : ℕ) → ((i : ℕ) → m < i → Chained (linksFrom i xs) a b → ⊥) → highest j xs a b ≤ m
-  highest-below j m apart = elim (decLe (highest j xs a b) m) [
+  pub highest-below : (j m : ℕ) → ((i : ℕ) → m < i → Chained (linksFromLabel i xs) a b → ⊥) → highest j xs a b ≤ m
+  highest-below j m different = elim (decLe (highest j xs a b) m) [
     | yes h ↦ h
     | no h ↦ absurd (apart (highest j xs a b) (omega arith) (highest-chained j _ (omega arith) (le-refl _)))
   ]
@@ -102,7 +102,7 @@ module _ (b : Book) (log : List ℕ) (one other : ℕ) where
 
   -- at most n for different cells, since no link has the label n + 1
   pub window-apart : (one ≡ other → ⊥) → label ≤ b .clock .n
-  window-apart apart = ⊎-elim (λ e. absurd (apart (alone e))) (λ l. omega arith) (eq-or-lt-of-le (highest-most (windowLinks b log) one other top))
+  window-apart different = ⊎-elim (λ e. absurd (apart (alone e))) (λ l. omega arith) (eq-or-lt-of-le (highest-most (windowLinks b log) one other top))
     where
       no-link : {a c : ℕ} → Linked a c [] → ⊥
       no-link = elim [ ]

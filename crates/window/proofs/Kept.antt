@@ -10,7 +10,7 @@ use lib.ListN.{length, getD, length-map}
 use Rattle.graph.specs.Link.{Link}
 use Rattle.book_state.specs.declared.Book.{Book}
 use Rattle.book_state.specs.Arrays.{cells}
-use Rattle.book_state.specs.Log.{keep, pairAt, labelled, linksFrom}
+use Rattle.book_state.specs.Log.{keep, pairAt, labelled, linksAt}
 use Rattle.window.specs.Window.{slideLinks}
 
 pub kept-front : (label : ℕ) (l : Link) (ls : List Link)
@@ -28,13 +28,13 @@ kept-few label l = go (ltb (l .one) cells && ltb (l .other) cells)
     go true = omega arith
     go false = omega arith
 
-links-few : (log : List ℕ) (at n : ℕ) → length (linksFrom log at n) ≤ n
-unfolding linksFrom
+links-few : (log : List ℕ) (at n : ℕ) → length (linksAt log at n) ≤ n
+unfolding linksAt
 links-few log at zero = omega arith
 links-few log at (suc n) = go (ltb (pairAt log at .one) cells && ltb (pairAt log at .other) cells) (links-few log (at + 2) n)
   where
-    go : (t : Bool) → length (linksFrom log (at + 2) n) ≤ n
-        → length (cond t (pairAt log at ∷ linksFrom log (at + 2) n) (linksFrom log (at + 2) n)) ≤ suc n
+    go : (t : Bool) → length (linksAt log (at + 2) n) ≤ n
+        → length (cond t (pairAt log at ∷ linksAt log (at + 2) n) (linksAt log (at + 2) n)) ≤ suc n
     go true h = omega arith
     go false h = omega arith
 

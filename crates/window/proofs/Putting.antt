@@ -9,7 +9,7 @@ use lib.ListN.{length, getD, set, length-append}
 use lib.Seq.{sets}
 use Rattle.graph.specs.Forest.{Labelled}
 use Rattle.book_state.specs.declared.Book.{Book}
-use Rattle.book_state.specs.Log.{keep, pairAt, labelled, linksFrom}
+use Rattle.book_state.specs.Log.{keep, pairAt, labelled, linksAt}
 use Rattle.window.specs.Window.{windowSlides, slideLinks, linksFromAge, windowLinks}
 use Rattle.window.specs.Gathered.{onesOf, othersOf, labelsOf, Put}
 use Rattle.window.proofs.Kept.{kept-front, kept-few, slide-few}
@@ -68,8 +68,8 @@ pub record Pairs (log : List ℕ) (start count label at : ℕ) (ones others labe
     (i end : ℕ) (ones′ others′ labels′ : List ℕ) : Type 0 where
   pub within : i ≤ count
   pub few : end ≤ at + i
-  pub left : Left (map (labelled label) (linksFrom log start count)) at ones others labels
-      (map (labelled label) (linksFrom log (start + 2 * i) (count - i))) end ones′ others′ labels′
+  pub left : Left (map (labelled label) (linksAt log start count)) at ones others labels
+      (map (labelled label) (linksAt log (start + 2 * i) (count - i))) end ones′ others′ labels′
 
 module _ {log : List ℕ} {start count label at : ℕ} {ones others labels : List ℕ} where
   pub pairs-begin : Pairs log start count label at ones others labels 0 at ones others labels
@@ -83,7 +83,7 @@ module _ {log : List ℕ} {start count label at : ℕ} {ones others labels : Lis
     pub pairs-more : {end′ : ℕ} {ones″ others″ labels″ : List ℕ} → i < count
         → Put (map (labelled label) (keep (pairAt log (start + 2 * i)) [])) end ones′ others′ labels′ end′ ones″ others″ labels″
         → Pairs log start count label at ones others labels (i + 1) end′ ones″ others″ labels″
-    unfolding linksFrom
+    unfolding linksAt
     pairs-more h put =
         record {
           within = omega arith;
@@ -91,19 +91,19 @@ module _ {log : List ℕ} {start count label at : ℕ} {ones others labels : Lis
           left = left-put (r .left) front put;
         }
       where
-        front : map (labelled label) (linksFrom log (start + 2 * i) (count - i))
+        front : map (labelled label) (linksAt log (start + 2 * i) (count - i))
             ≡ map (labelled label) (keep (pairAt log (start + 2 * i)) [])
-            ++ map (labelled label) (linksFrom log (start + 2 * (i + 1)) (count - (i + 1)))
+            ++ map (labelled label) (linksAt log (start + 2 * (i + 1)) (count - (i + 1)))
         front =
             let one : count - i ≡ suc (count - (i + 1)) = omega arith in
             let next : start + 2 * i + 2 ≡ start + 2 * (i + 1) = omega arith in
-            rw (one, ← next) (kept-front label (pairAt log (start + 2 * i)) (linksFrom log (start + 2 * i + 2) (count - (i + 1))))
+            rw (one, ← next) (kept-front label (pairAt log (start + 2 * i)) (linksAt log (start + 2 * i + 2) (count - (i + 1))))
 
-    pub pairs-end : count ≤ i → Put (map (labelled label) (linksFrom log start count)) at ones others labels end ones′ others′ labels′
-    unfolding linksFrom
+    pub pairs-end : count ≤ i → Put (map (labelled label) (linksAt log start count)) at ones others labels end ones′ others′ labels′
+    unfolding linksAt
     pairs-end h = left-none (r .left) none
       where
-        none : map (labelled label) (linksFrom log (start + 2 * i) (count - i)) ≡ []
+        none : map (labelled label) (linksAt log (start + 2 * i) (count - i)) ≡ []
         none = let e : count - i ≡ 0 = omega arith in rw e
 
 -- ---- the slides of the window, of which the newest `age` are put

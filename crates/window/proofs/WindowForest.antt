@@ -17,9 +17,9 @@ use Rattle.graph.proofs.Chains.{chained-relink, chains-true, chains-false}
 use Rattle.graph.proofs.Cut.{same-root-at}
 use Rattle.forest.specs.Arrays.{parentAtIn}
 use Rattle.book_state.specs.declared.Book.{Book}
-use Rattle.book_state.specs.Arrays.{cells, most, arraysOf, freshArrays, unitedAll}
+use Rattle.book_state.specs.Arrays.{cells, stepLimit, arraysOf, freshArrays, unitedAll}
 use Rattle.book_state.proofs.Built.{each-reverse, Holds, holds-all}
-use Rattle.window.specs.Window.{windowLinks, linksFrom, highest}
+use Rattle.window.specs.Window.{windowLinks, linksFromLabel, highest}
 use Rattle.window.specs.Falls.{Falls}
 use Rattle.window.specs.Agree.{agreeAt, agreeFrom}
 use Rattle.window.proofs.Falling.{falls-reverse}
@@ -27,13 +27,13 @@ use Rattle.window.proofs.WindowLinks.{window-ends, window-falls}
 
 -- ---- the order of links
 
-links-onto : (cut : ℕ) (xs ys : List Labelled) → linksFrom cut (reverseAux xs ys) ≡ reverseAux (linksFrom cut xs) (linksFrom cut ys)
+links-onto : (cut : ℕ) (xs ys : List Labelled) → linksFromLabel cut (reverseAux xs ys) ≡ reverseAux (linksFromLabel cut xs) (linksFromLabel cut ys)
 unfolding atLeast
 links-onto cut [] ys = refl
 links-onto cut (x ∷ xs) ys = links-onto cut xs (x ∷ ys) ∙ go (ltb (x .label) cut)
   where
-    go : (t : Bool) → reverseAux (linksFrom cut xs) (map (λ y. y .link) (cond t (atLeast cut ys) (x ∷ atLeast cut ys)))
-        ≡ reverseAux (map (λ y. y .link) (cond t (atLeast cut xs) (x ∷ atLeast cut xs))) (linksFrom cut ys)
+    go : (t : Bool) → reverseAux (linksFromLabel cut xs) (map (λ y. y .link) (cond t (atLeast cut ys) (x ∷ atLeast cut ys)))
+        ≡ reverseAux (map (λ y. y .link) (cond t (atLeast cut xs) (x ∷ atLeast cut xs))) (linksFromLabel cut ys)
     go true = refl
     go false = refl
 
@@ -52,12 +52,12 @@ onto-linked (l ∷ ls) (inl (here e)) = onto-linked ls (inr (here e))
 onto-linked (l ∷ ls) (inl (there h)) = onto-linked ls (inl h)
 onto-linked (l ∷ ls) (inr h) = onto-linked ls (inr (there h))
 
-pub chained-reverse : (cut : ℕ) (xs : List Labelled) {a b : ℕ} → Chained (linksFrom cut (reverse xs)) a b ↔ Chained (linksFrom cut xs) a b
+pub chained-reverse : (cut : ℕ) (xs : List Labelled) {a b : ℕ} → Chained (linksFromLabel cut (reverse xs)) a b ↔ Chained (linksFromLabel cut xs) a b
 unfolding atLeast
-chained-reverse cut xs = rw (links-onto cut xs []) (chained-relink (λ x y. back), chained-relink (λ x y h. onto-linked (linksFrom cut xs) (inl h)))
+chained-reverse cut xs = rw (links-onto cut xs []) (chained-relink (λ x y. back), chained-relink (λ x y h. onto-linked (linksFromLabel cut xs) (inl h)))
   where
-    back : {x y : ℕ} → Linked x y (reverse (linksFrom cut xs)) → Linked x y (linksFrom cut xs)
-    back h = ⊎-elim (λ k. k) (λ k. elim k [ ]) (linked-onto (linksFrom cut xs) [] h)
+    back : {x y : ℕ} → Linked x y (reverse (linksFromLabel cut xs)) → Linked x y (linksFromLabel cut xs)
+    back h = ⊎-elim (λ k. k) (λ k. elim k [ ]) (linked-onto (linksFromLabel cut xs) [] h)
 
 -- ---- the forest
 
@@ -67,20 +67,20 @@ module _ {xs : List Labelled} {m : ℕ} (ends : EndsBelow cells xs) (falls : Fal
   holds = rw grown (holds-all (each-reverse ends))
 
   -- two walks at a cut end at one root exactly when the links from that label on chain the two
-  pub agree-chains : (cut one other : ℕ) → agreeAt ps ls cut one other ≡ chains (linksFrom cut xs) one other
+  pub agree-chains : (cut one other : ℕ) → agreeAt ps ls cut one other ≡ chains (linksFromLabel cut xs) one other
   unfolding walkAt
-  agree-chains cut one other = rw (root one, root other) (go (chains (linksFrom cut xs) one other) refl)
+  agree-chains cut one other = rw (root one, root other) (go (chains (linksFromLabel cut xs) one other) refl)
     where
       f : Forest
-      f = forestOf most (reverse xs)
+      f = forestOf stepLimit (reverse xs)
 
-      root : (c : ℕ) → climb (parentAtIn ps ls cut) most c .root ≡ walkAt most f cut c .root
-      root c = ap (λ g. walkAt most g cut c .root) (holds .holds)
+      root : (c : ℕ) → climb (parentAtIn ps ls cut) stepLimit c .root ≡ walkAt stepLimit f cut c .root
+      root c = ap (λ g. walkAt stepLimit g cut c .root) (holds .holds)
 
-      same : (walkAt most f cut one .root ≡ walkAt most f cut other .root) ↔ Chained (linksFrom cut (reverse xs)) one other
+      same : (walkAt stepLimit f cut one .root ≡ walkAt stepLimit f cut other .root) ↔ Chained (linksFromLabel cut (reverse xs)) one other
       same = same-root-at (le-refl 10) (each-reverse ends) (falls-reverse falls) cut one other
 
-      go : (t : Bool) → chains (linksFrom cut xs) one other ≡ t → eqb (walkAt most f cut one .root) (walkAt most f cut other .root) ≡ t
+      go : (t : Bool) → chains (linksFromLabel cut xs) one other ≡ t → eqb (walkAt stepLimit f cut one .root) (walkAt stepLimit f cut other .root) ≡ t
       go true e = eq-eqb _ _ (same .1 (chained-reverse cut xs .1 (chains-true _ one other e)))
       go false e = ne-eqb _ _ (λ q. chains-false _ one other e (chained-reverse cut xs .0 (same .0 q)))
 

@@ -15,7 +15,7 @@ use Rattle.graph.proofs.Cut.{each-map, all-at-least}
 use Rattle.slides.specs.Clock.{openSlide}
 use Rattle.book_state.specs.declared.Book.{Book}
 use Rattle.book_state.specs.Arrays.{cells}
-use Rattle.book_state.specs.Log.{Readable, pairAt, labelled, linksFrom}
+use Rattle.book_state.specs.Log.{Readable, pairAt, labelled, linksAt}
 use Rattle.book_state.specs.Order.{inOrder}
 use Rattle.book_state.specs.Numbers.{has, logPlaces}
 use Rattle.book_state.proofs.Checks.{readable}
@@ -34,14 +34,14 @@ each-labelled P label p [] = empty
 each-labelled P label p (l ∷ ls) = also p (each-labelled P label p ls)
 
 -- a pair with an entry that is no cell is no link
-kept-cells : (label : ℕ) (log : List ℕ) (at n : ℕ) → EndsBelow cells (map (labelled label) (linksFrom log at n))
-unfolding linksFrom
+kept-cells : (label : ℕ) (log : List ℕ) (at n : ℕ) → EndsBelow cells (map (labelled label) (linksAt log at n))
+unfolding linksAt
 kept-cells label log at zero = empty
 kept-cells label log at (suc n) = go (ltb (pairAt log at .one) cells) (ltb (pairAt log at .other) cells) refl refl (kept-cells label log (at + 2) n)
   where
     go : (t u : Bool) → ltb (pairAt log at .one) cells ≡ t → ltb (pairAt log at .other) cells ≡ u
-        → EndsBelow cells (map (labelled label) (linksFrom log (at + 2) n))
-        → EndsBelow cells (map (labelled label) (cond (t && u) (pairAt log at ∷ linksFrom log (at + 2) n) (linksFrom log (at + 2) n)))
+        → EndsBelow cells (map (labelled label) (linksAt log (at + 2) n))
+        → EndsBelow cells (map (labelled label) (cond (t && u) (pairAt log at ∷ linksAt log (at + 2) n) (linksAt log (at + 2) n)))
     go true true p q on = also (ltb-true _ _ p, ltb-true _ _ q) on
     go true false p q on = on
     go false u p q on = on
@@ -80,10 +80,10 @@ module _ (b : Book) (log : List ℕ) where
   window-falls = falls-higher (omega arith) (falls-from 0 (windowSlides b))
 
   -- all have a label of 1 or more, and none one above n
-  pub window-all : window.linksFrom 1 (windowLinks b log) ≡ map (λ x. x .link) (windowLinks b log)
+  pub window-all : window.linksAt 1 (windowLinks b log) ≡ map (λ x. x .link) (windowLinks b log)
   window-all = ap (map (λ x. x .link)) (all-at-least 1 (each-map (λ x p. p .0) window-labels))
 
-  pub window-none : window.linksFrom (suc (b .clock .n)) (windowLinks b log) ≡ []
+  pub window-none : window.linksAt (suc (b .clock .n)) (windowLinks b log) ≡ []
   window-none = ap (map (λ x. x .link)) (falls-none window-falls (suc (b .clock .n)) (omega arith))
 
   few-from : ((spot : ℕ) → getD (b .counts) spot 0 ≤ 256) → (age more : ℕ) → length (linksFromAge b log age more) ≤ more * 256

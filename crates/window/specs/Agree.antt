@@ -5,11 +5,11 @@ use mathlib.Core.List.{List}
 use lib.Dec.{eqb}
 use Rattle.graph.specs.Forest.{climb}
 use Rattle.forest.specs.Arrays.{parentAtIn}
-use Rattle.book_state.specs.Arrays.{most}
+use Rattle.book_state.specs.Arrays.{stepLimit}
 
 -- the walks of the two at the cut end at one root
 abbrev pub agreeAt : List ℕ → List ℕ → ℕ → ℕ → ℕ → Bool
-agreeAt ps ls cut one other = eqb (climb (parentAtIn ps ls cut) most one .root) (climb (parentAtIn ps ls cut) most other .root)
+agreeAt ps ls cut one other = eqb (climb (parentAtIn ps ls cut) stepLimit one .root) (climb (parentAtIn ps ls cut) stepLimit other .root)
 
 -- the largest such cut, from j down; 0 where there is none
 unfoldable pub agreeFrom : ℕ → List ℕ → List ℕ → ℕ → ℕ → ℕ

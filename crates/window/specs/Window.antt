@@ -36,12 +36,12 @@ unfoldable pub windowLinks : Book → List ℕ → List Labelled
 windowLinks b log = linksFromAge b log 0 (windowSlides b)
 
 -- those with a label of j or more
-abbrev pub linksFrom : ℕ → List Labelled → List Link
-linksFrom j xs = map (λ x. x .link) (atLeast j xs)
+abbrev pub linksFromLabel : ℕ → List Labelled → List Link
+linksFromLabel j xs = map (λ x. x .link) (atLeast j xs)
 
 -- the largest label, from j down, such that the links from it on chain the two; 0 where there is none
 unfoldable pub highest : ℕ → List Labelled → ℕ → ℕ → ℕ
 highest zero xs one other = 0
 highest (suc j) xs one other =
     let lower : ℕ = highest j xs one other in
-    cond (chains (linksFrom (suc j) xs) one other) (suc j) lower
+    cond (chains (linksFromLabel (suc j) xs) one other) (suc j) lower

@@ -5,7 +5,7 @@ ghost use mathlib.Core.List.{map, []};
 ghost use Prim.Native.Nat.{_+_, _*_, _≤_, _<_, min};
 ghost use lib.ListN.{length};
 ghost use Rattle.slides.specs.Clock.{chunkOf, placeOf};
-ghost use Rattle.book_state.specs.Log.{Readable, halfOf, keep, labelled, linksFrom, placeLinks};
+ghost use Rattle.book_state.specs.Log.{Readable, halfOf, keep, labelled, linksAt, placeLinks};
 ghost use Rattle.window.specs.Gathered.{Put};
 
 // How many slides the window has while slide k is open: in a young book fewer than n exist.
@@ -59,7 +59,7 @@ fn put_links(
 ) -> usize
     requires { ⌜ (start + 2 * count ≤ length (now log)) × (at + count ≤ 4096) ⌝ }
     ensures { λ r.
-        ⌜ Put (map (labelled label) (linksFrom (now (log .entry)) start count))
+        ⌜ Put (map (labelled label) (linksAt (now (log .entry)) start count))
         at (now (ones .entry)) (now (others .entry)) (now (labels .entry)) r (now (ones .exit)) (now (others .exit)) (now (labels .exit)) ⌝ }
 {
     let mut end = at;

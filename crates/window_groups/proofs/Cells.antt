@@ -12,8 +12,8 @@ use Rattle.graph.specs.Forest.{Labelled}
 use Rattle.forest.specs.Arrays.{countFrom}
 use Rattle.forest.proofs.Fill.{length-countFrom, length-each, getD-each}
 use Rattle.book_state.specs.Arrays.{cells}
-use Rattle.window.specs.Window.{linksFrom}
-use Rattle.window_groups.specs.Groups.{those, groupOf, ofCells}
+use Rattle.window.specs.Window.{linksFromLabel}
+use Rattle.window_groups.specs.Groups.{filter, groupOf, ofCells}
 
 -- ---- the numbers from i on
 
@@ -33,44 +33,44 @@ count-in i (suc n) (List·Memᴰ·tail m) = let on = count-in (suc i) n m in (om
 
 -- ---- those that pass
 
-pub those-agree : (t u : ℕ → Bool) (i n : ℕ) → ((c : ℕ) → i ≤ c → c < i + n → t c ≡ u c)
-    → those t (countFrom i n) ≡ those u (countFrom i n)
-unfolding those countFrom
-those-agree t u i zero e = refl
-those-agree t u i (suc n) e = rw (those-agree t u (suc i) n (λ c h k. e c (omega arith) (omega arith)), e i (omega arith) (omega arith))
+pub filter-agree : (t u : ℕ → Bool) (i n : ℕ) → ((c : ℕ) → i ≤ c → c < i + n → t c ≡ u c)
+    → filter t (countFrom i n) ≡ filter u (countFrom i n)
+unfolding filter countFrom
+filter-agree t u i zero e = refl
+filter-agree t u i (suc n) e = rw (filter-agree t u (suc i) n (λ c h k. e c (omega arith) (omega arith)), e i (omega arith) (omega arith))
 
-pub those-short : (t : ℕ → Bool) (cs : List ℕ) → length (those t cs) ≤ length cs
-unfolding those
-those-short t [] = omega arith
-those-short t (c ∷ cs) = go (t c) (those-short t cs)
+pub filter-short : (t : ℕ → Bool) (cs : List ℕ) → length (filter t cs) ≤ length cs
+unfolding filter
+filter-short t [] = omega arith
+filter-short t (c ∷ cs) = go (t c) (filter-short t cs)
   where
-    go : (b : Bool) → length (those t cs) ≤ length cs → length (cond b (c ∷ those t cs) (those t cs)) ≤ suc (length cs)
+    go : (b : Bool) → length (filter t cs) ≤ length cs → length (cond b (c ∷ filter t cs) (filter t cs)) ≤ suc (length cs)
     go true on = omega arith
     go false on = omega arith
 
-pub in-those : (t : ℕ → Bool) {c : ℕ} {cs : List ℕ} → List·Memᴰ c cs → t c ≡ true → List·Memᴰ c (those t cs)
-unfolding those
-in-those t {c} (List·Memᴰ·head {x} {xs} e) p = rw (sym (ap t e) ∙ p) (List·Memᴰ·head e)
-in-those t {c} (List·Memᴰ·tail {x} {xs} m) p = go (t x) (in-those t m p)
+pub in-filter : (t : ℕ → Bool) {c : ℕ} {cs : List ℕ} → List·Memᴰ c cs → t c ≡ true → List·Memᴰ c (filter t cs)
+unfolding filter
+in-filter t {c} (List·Memᴰ·head {x} {xs} e) p = rw (sym (ap t e) ∙ p) (List·Memᴰ·head e)
+in-filter t {c} (List·Memᴰ·tail {x} {xs} m) p = go (t x) (in-filter t m p)
   where
-    go : (b : Bool) → List·Memᴰ c (those t xs) → List·Memᴰ c (cond b (x ∷ those t xs) (those t xs))
+    go : (b : Bool) → List·Memᴰ c (filter t xs) → List·Memᴰ c (cond b (x ∷ filter t xs) (filter t xs))
     go true on = List·Memᴰ·tail on
     go false on = on
 
-pub those-in : (t : ℕ → Bool) (cs : List ℕ) {c : ℕ} → List·Memᴰ c (those t cs) → (t c ≡ true) × List·Memᴰ c cs
-unfolding those
-those-in t [] h = elim h [ ]
-those-in t (x ∷ cs) {c} h = go (t x) refl h (those-in t cs)
+pub filter-in : (t : ℕ → Bool) (cs : List ℕ) {c : ℕ} → List·Memᴰ c (filter t cs) → (t c ≡ true) × List·Memᴰ c cs
+unfolding filter
+filter-in t [] h = elim h [ ]
+filter-in t (x ∷ cs) {c} h = go (t x) refl h (filter-in t cs)
   where
-    go : (b : Bool) → t x ≡ b → List·Memᴰ c (cond b (x ∷ those t cs) (those t cs))
-        → (List·Memᴰ c (those t cs) → (t c ≡ true) × List·Memᴰ c cs) → (t c ≡ true) × List·Memᴰ c (x ∷ cs)
+    go : (b : Bool) → t x ≡ b → List·Memᴰ c (cond b (x ∷ filter t cs) (filter t cs))
+        → (List·Memᴰ c (filter t cs) → (t c ≡ true) × List·Memᴰ c cs) → (t c ≡ true) × List·Memᴰ c (x ∷ cs)
     go true p (List·Memᴰ·head e) on = (ap t e ∙ p, List·Memᴰ·head e)
     go true p (List·Memᴰ·tail m) on = (on m .0, List·Memᴰ·tail (on m .1))
     go false p m on = (on m .0, List·Memᴰ·tail (on m .1))
 
 -- a group has at most all cells
 pub group-few : (xs : List Labelled) (c : ℕ) → length (groupOf xs c) ≤ cells
-group-few xs c = omega (arith, those-short (chains (linksFrom 1 xs) c) (countFrom 0 cells), length-countFrom 0 cells)
+group-few xs c = omega (arith, filter-short (chains (linksFromLabel 1 xs) c) (countFrom 0 cells), length-countFrom 0 cells)
 
 -- ---- of each cell
 

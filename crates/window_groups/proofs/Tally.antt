@@ -13,16 +13,16 @@ use lib.Seq.{getD-set-same, getD-set-other, ext-getD}
 use Rattle.forest.specs.Arrays.{countFrom}
 use Rattle.forest.proofs.Fill.{length-each, getD-each, length-countFrom}
 use Rattle.book_state.specs.Arrays.{cells}
-use Rattle.window_groups.specs.Groups.{those}
+use Rattle.window_groups.specs.Groups.{filter}
 use Rattle.window_groups.specs.Trees.{treeOf, ofTrees}
-use Rattle.window_groups.proofs.Cells.{those-short}
+use Rattle.window_groups.proofs.Cells.{filter-short}
 
 -- the cells from c on whose root is r
 abbrev pub treeFrom : (ℕ → ℕ) → ℕ → ℕ → List ℕ
-treeFrom root r c = those (λ d. eqb (root d) r) (countFrom c (cells - c))
+treeFrom root r c = filter (λ d. eqb (root d) r) (countFrom c (cells - c))
 
 pub tree-short : (root : ℕ → ℕ) (r c : ℕ) → length (treeFrom root r c) ≤ cells
-tree-short root r c = omega (arith, those-short (λ d. eqb (root d) r) (countFrom c (cells - c)), length-countFrom c (cells - c))
+tree-short root r c = omega (arith, filter-short (λ d. eqb (root d) r) (countFrom c (cells - c)), length-countFrom c (cells - c))
 
 -- the cells from c on are stored
 pub record Tallied (f : List ℕ → ℕ) (root : ℕ → ℕ) (a : List ℕ) (c : ℕ) : Type 0 where
@@ -36,16 +36,16 @@ module _ (root : ℕ → ℕ) (c r : ℕ) (h : c < cells) where
 
   -- a cell belongs to its root's tree and to no other
   tree-one : root c ≡ r → treeFrom root r c ≡ c ∷ treeFrom root r (suc c)
-  unfolding those countFrom
+  unfolding filter countFrom
   tree-one e = rw (left, eq-eqb (root c) r e)
 
   tree-other : ¬ (root c ≡ r) → treeFrom root r c ≡ treeFrom root r (suc c)
-  unfolding those countFrom
+  unfolding filter countFrom
   tree-other e = rw (left, ne-eqb (root c) r e)
 
 module _ {f : List ℕ → ℕ} {root : ℕ → ℕ} where
   pub tallied-none : {a : List ℕ} → length a ≡ cells → ((r : ℕ) → r < cells → getD a r 0 ≡ f []) → Tallied f root a cells
-  unfolding those countFrom
+  unfolding filter countFrom
   tallied-none long e = record { within = omega arith; long = long; stored = e }
 
   pub tallied-one : {a : List ℕ} {c r v : ℕ} → Tallied f root a c → 0 < c → root (c - 1) ≡ r → r < cells

@@ -11,11 +11,11 @@ use Rattle.graph.specs.Forest.{climb}
 use Rattle.forest.specs.Arrays.{parentIn, labelIn, rootsOf}
 use Rattle.forest.proofs.Fill.{length-each, getD-each}
 use Rattle.forest.proofs.Held.{root-below}
-use Rattle.book_state.specs.Arrays.{cells, most}
+use Rattle.book_state.specs.Arrays.{cells, stepLimit}
 use Rattle.window_groups.specs.declared.trees.Tallies.{Tallies}
 use Rattle.window_groups.specs.Groups.{smallest}
 use Rattle.window_groups.specs.Trees.{rootIn, Roots, treeOf, ofTrees, leastLabel, talliesOf, atRoot}
-use Rattle.window_groups.proofs.Cells.{those-agree}
+use Rattle.window_groups.proofs.Cells.{filter-agree}
 use Rattle.window_groups.proofs.Labels.{Found, label-found}
 
 -- a forest of links with labels from 1 on, as far as the passes need it
@@ -25,28 +25,28 @@ pub record Grown (ps ls : List ℕ) : Type 0 where
   pub from-one : (c : ℕ) → ¬ (parentIn ps c ≡ c) → 1 ≤ labelIn ls c
 
 -- what the passes gave
-pub record Told (n : ℕ) (ps ls roots : List ℕ) (t : Tallies) : Type 0 where
+pub record HasHistory (n : ℕ) (ps ls roots : List ℕ) (t : Tallies) : Type 0 where
   pub grown : Grown ps ls
-  pub roots-are : roots ≡ rootsOf ps most cells
+  pub roots-are : roots ≡ rootsOf ps stepLimit cells
   pub tallies-are : t ≡ talliesOf roots ps ls (n + 1)
 
 -- a cell's root
 module _ {ps ls : List ℕ} (g : Grown ps ls) where
   abbrev root : ℕ → ℕ
-  root c = climb (parentIn ps) most c .root
+  root c = climb (parentIn ps) stepLimit c .root
 
-  root-is : {roots : List ℕ} → roots ≡ rootsOf ps most cells → (c : ℕ) → c < cells → rootIn roots c ≡ root c
+  root-is : {roots : List ℕ} → roots ≡ rootsOf ps stepLimit cells → (c : ℕ) → c < cells → rootIn roots c ≡ root c
   root-is e c h = rw e (getD-each root cells c 0 h)
 
-  pub roots-below : {roots : List ℕ} → roots ≡ rootsOf ps most cells → Roots roots
+  pub roots-below : {roots : List ℕ} → roots ≡ rootsOf ps stepLimit cells → Roots roots
   roots-below {roots} e c = elim (decLt c cells) [
-    | yes h ↦ rw (root-is e c h) (root-below (parentIn ps) cells (g .inside) most c h)
+    | yes h ↦ rw (root-is e c h) (root-below (parentIn ps) cells (g .inside) stepLimit c h)
     | no h ↦ rw (List·getD-eq-default roots 0 {n = c} (omega (arith, ap length e, length-each root cells))) (omega arith)
   ]
 
-module _ {n : ℕ} {ps ls roots : List ℕ} {t : Tallies} (told : Told n ps ls roots t) {c : ℕ} (h : c < cells) where
+module _ {n : ℕ} {ps ls roots : List ℕ} {t : Tallies} (told : HasHistory n ps ls roots t) {c : ℕ} (h : c < cells) where
   abbrev rootOf : ℕ → ℕ
-  rootOf d = climb (parentIn ps) most d .root
+  rootOf d = climb (parentIn ps) stepLimit d .root
 
   abbrev tree : List ℕ
   tree = treeOf rootOf (rootOf c)
@@ -55,7 +55,7 @@ module _ {n : ℕ} {ps ls roots : List ℕ} {t : Tallies} (told : Told n ps ls r
   at-root : (f : List ℕ → ℕ) → atRoot roots (ofTrees f (rootIn roots)) c ≡ f tree
   at-root f =
       getD-each (λ r. f (treeOf (rootIn roots) r)) cells (rootIn roots c) 0 (roots-below (told .grown) (told .roots-are) c)
-      ∙ ap f (those-agree _ _ 0 cells (λ d _ k. same d (omega arith)))
+      ∙ ap f (filter-agree _ _ 0 cells (λ d _ k. same d (omega arith)))
     where
       same : (d : ℕ) → d < cells → eqb (rootIn roots d) (rootIn roots c) ≡ eqb (rootOf d) (rootOf c)
       same d k = rw (root-is (told .grown) (told .roots-are) d k, root-is (told .grown) (told .roots-are) c h)

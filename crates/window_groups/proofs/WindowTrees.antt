@@ -10,7 +10,7 @@ use Rattle.graph.proofs.Forests.{parent-below}
 use Rattle.graph.proofs.Cut.{each-map, label-of-step}
 use Rattle.forest.specs.Arrays.{parentIn, labelIn}
 use Rattle.book_state.specs.declared.Book.{Book}
-use Rattle.book_state.specs.Arrays.{most}
+use Rattle.book_state.specs.Arrays.{stepLimit}
 use Rattle.book_state.proofs.Built.{each-reverse, Holds, holds-all}
 use Rattle.window.specs.Window.{windowLinks}
 use Rattle.window.proofs.Falling.{falls-reverse}
@@ -22,7 +22,7 @@ use Rattle.window_groups.specs.Groups.{smallest, groupOf, leastHold, gro
 use Rattle.window_groups.specs.Trees.{windowArrays, windowForestOf, treeOf, leastLabel, groupsAt}
 use Rattle.window_groups.proofs.Cells.{of-cells-agree}
 use Rattle.window_groups.proofs.GroupTrees.{Ordered, group-is-tree, tree-hold}
-use Rattle.window_groups.proofs.Told.{Grown, Told, first-at, count-at, least-at}
+use Rattle.window_groups.proofs.HasHistory.{Grown, HasHistory, first-at, count-at, least-at}
 
 module _ (b : Book) (log : List ℕ) where
   abbrev united : List Labelled
@@ -41,11 +41,11 @@ module _ (b : Book) (log : List ℕ) where
   holds = holds-all (each-reverse (window-ends b log))
 
   module _ {f : WindowForest} (is : f ≡ windowForestOf b log) where
-    parents-are : parentIn (f .parent) ≡ forestOf most united .parent
+    parents-are : parentIn (f .parent) ≡ forestOf stepLimit united .parent
     unfolding windowForestOf
     parents-are = ap (λ g. parentIn (g .parent)) is ∙ ap (λ g. g .parent) (holds .holds)
 
-    labels-are : labelIn (f .label) ≡ forestOf most united .label
+    labels-are : labelIn (f .label) ≡ forestOf stepLimit united .label
     unfolding windowForestOf
     labels-are = ap (λ g. labelIn (g .label)) is ∙ ap (λ g. g .label) (holds .holds)
 
@@ -58,10 +58,10 @@ module _ (b : Book) (log : List ℕ) where
           from-one = λ c. rw (parent-is c, label-is c) (label-of-step (le-refl 10) (ordered .ends) (λ l. 1 ≤ l) from-one c);
         }
       where
-        parent-is : (c : ℕ) → parentIn (f .parent) c ≡ forestOf most united .parent c
+        parent-is : (c : ℕ) → parentIn (f .parent) c ≡ forestOf stepLimit united .parent c
         parent-is c = ap (λ p. p c) parents-are
 
-        label-is : (c : ℕ) → labelIn (f .label) c ≡ forestOf most united .label c
+        label-is : (c : ℕ) → labelIn (f .label) c ≡ forestOf stepLimit united .label c
         label-is c = ap (λ l. l c) labels-are
 
         from-one : Each (λ y. 1 ≤ y .label) united
@@ -69,7 +69,7 @@ module _ (b : Book) (log : List ℕ) where
 
     -- the tree of a cell, by parents
     abbrev tree : (ℕ → ℕ) → ℕ → List ℕ
-    tree parent c = treeOf (λ d. climb parent most d .root) (climb parent most c .root)
+    tree parent c = treeOf (λ d. climb parent stepLimit d .root) (climb parent stepLimit c .root)
 
     tree-is : (c : ℕ) → tree (parentIn (f .parent)) c ≡ groupOf (windowLinks b log) c
     tree-is c = ap (λ p. tree p c) parents-are ∙ sym (group-is-tree ordered c)
@@ -81,7 +81,7 @@ module _ (b : Book) (log : List ℕ) where
         ap₂ (λ p l. leastLabel (b .clock .n + 1) p l (tree p c) - 1) parents-are labels-are
         ∙ sym (ap (leastHold (b .clock .n) (windowLinks b log)) (group-is-tree ordered c) ∙ tree-hold ordered _)
 
-    pub forest-groups : {roots : List ℕ} {t : Tallies} → Told (b .clock .n) (f .parent) (f .label) roots t
+    pub forest-groups : {roots : List ℕ} {t : Tallies} → HasHistory (b .clock .n) (f .parent) (f .label) roots t
         → groupsAt roots t (f .count) ≡ groupsOf b log
     unfolding groupsAt groupsOf windowForestOf
     forest-groups told = λ i.

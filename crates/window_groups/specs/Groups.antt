@@ -9,19 +9,19 @@ use Rattle.graph.specs.Forest.{Labelled}
 use Rattle.forest.specs.Arrays.{countFrom}
 use Rattle.book_state.specs.Arrays.{cells}
 use Rattle.book_state.specs.declared.Book.{Book}
-use Rattle.window.specs.Window.{windowLinks, linksFrom, highest}
+use Rattle.window.specs.Window.{windowLinks, linksFromLabel, highest}
 use Rattle.window_groups.specs.declared.Groups.{Groups}
 
 -- the cells of a list that pass a test
-unfoldable pub those : (ℕ → Bool) → List ℕ → List ℕ
-those test [] = []
-those test (c ∷ cs) =
-    let rest : List ℕ = those test cs in
+unfoldable pub filter : (ℕ → Bool) → List ℕ → List ℕ
+filter test [] = []
+filter test (c ∷ cs) =
+    let rest : List ℕ = filter test cs in
     cond (test c) (c ∷ rest) rest
 
 -- the cells that the window's links chain with c, in order of their numbers
 abbrev pub groupOf : List Labelled → ℕ → List ℕ
-groupOf xs c = those (chains (linksFrom 1 xs) c) (countFrom 0 cells)
+groupOf xs c = filter (chains (linksFromLabel 1 xs) c) (countFrom 0 cells)
 
 -- the first of the cells: the smallest, where they are in order of their numbers
 unfoldable pub smallest : List ℕ → ℕ

@@ -12,7 +12,7 @@ use Rattle.window.specs.Window.{windowLinks}
 use Rattle.window_groups.specs.declared.trees.WindowForest.{WindowForest}
 use Rattle.window_groups.specs.declared.trees.Tallies.{Tallies}
 use Rattle.window_groups.specs.declared.Groups.{Groups}
-use Rattle.window_groups.specs.Groups.{those, smallest, ofCells}
+use Rattle.window_groups.specs.Groups.{filter, smallest, ofCells}
 
 -- the window's links united, newest slide first
 abbrev pub windowArrays : Book → List ℕ → Arrays
@@ -32,7 +32,7 @@ Roots roots = (c : ℕ) → rootIn roots c < cells
 
 -- the cells whose root is r
 abbrev pub treeOf : (ℕ → ℕ) → ℕ → List ℕ
-treeOf root r = those (λ c. eqb (root c) r) (countFrom 0 cells)
+treeOf root r = filter (λ c. eqb (root c) r) (countFrom 0 cells)
 
 -- what f gives of each root's tree
 abbrev pub ofTrees : (List ℕ → ℕ) → (ℕ → ℕ) → List ℕ

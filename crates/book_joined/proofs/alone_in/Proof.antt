@@ -12,13 +12,13 @@ use Rattle.forest.specs.Arrays.{freshParents, parentAtIn}
 use Rattle.forest_check.proofs.Every.{Tested, tested-none, tested-more, tested-all, struck, kept}
 use Rattle.forest.proofs.Fill.{getD-within, length-countFrom}
 use Rattle.book_state.specs.Arrays.{cells}
-use Rattle.book_joined.specs.Alone.{apart}
+use Rattle.book_joined.specs.Alone.{spares}
 use Rattle.book_joined.proofs.alone_in.Statement.{statement}
 use Rattle.book_joined.proofs.alone_in.Tie as tie
 
 abbrev Inv-loop : tie.InvT-loop
 Inv-loop parent label cut asked cell₀ cell =
-    Tested (λ c _. apart asked c (parentAtIn parent label cut c)) (freshParents cells) true cell
+    Tested (λ c _. spares asked c (parentAtIn parent label cut c)) (freshParents cells) true cell
 
 abbrev μ-loop : tie.MeasureT-loop
 μ-loop parent label cut asked cell₀ cell = cells - cell
@@ -29,30 +29,30 @@ loop-holds c = tested-none
 cast-at : tie.Need-cast-at Inv-loop μ-loop
 cast-at c = search needs
 
-mul-apart : tie.Need-mul-apart Inv-loop μ-loop
-mul-apart c = omega arith
+mul-spares : tie.Need-mul-spares Inv-loop μ-loop
+mul-spares c = omega arith
 
-shared-slice-read-apart : tie.Need-shared-slice-read-apart Inv-loop μ-loop
-shared-slice-read-apart c = search needs
+shared-slice-read-spares : tie.Need-shared-slice-read-spares Inv-loop μ-loop
+shared-slice-read-spares c = search needs
 
-shared-slice-read-apart-2 : tie.Need-shared-slice-read-apart-2 Inv-loop μ-loop
-shared-slice-read-apart-2 c = search needs
+shared-slice-read-spares-2 : tie.Need-shared-slice-read-spares-2 Inv-loop μ-loop
+shared-slice-read-spares-2 c = search needs
 
-apart-requires : tie.Need-apart-requires Inv-loop μ-loop
-apart-requires c κs = search needs
+spares-requires : tie.Need-spares-requires Inv-loop μ-loop
+spares-requires c κs = search needs
 
 -- what the test says of the cell
-tested : (c : tie.After-apart Inv-loop μ-loop) →
+tested : (c : tie.After-spares Inv-loop μ-loop) →
     (let turn = c .before .before .before in
     let args = turn .before .before .before .before .args in
-    c .apart .result ≡ apart (args .asked) (turn .before .loop .cell) (parentAtIn (args .parent .now) (args .label .now) (args .cut) (turn .before .loop .cell)))
+    c .spares .result ≡ spares (args .asked) (turn .before .loop .cell) (parentAtIn (args .parent .now) (args .label .now) (args .cut) (turn .before .loop .cell)))
 tested c =
     let turn = c .before .before .before in
     let start = turn .before .before .before .before in
     let args = start .args in
     let cell = turn .before .loop .cell in
-    c .apart .ensures
-    ∙ ap (λ p. apart (args .asked) cell (cond (ltb (getD (args .label .now) cell 0) (args .cut)) cell p))
+    c .spares .ensures
+    ∙ ap (λ p. spares (args .asked) cell (cond (ltb (getD (args .label .now) cell 0) (args .cut)) cell p))
     (getD-within (args .parent .now) cell 0 cell (rw (start .pre .0) (turn .loop-test .taken)))
 
 returns : tie.Need-returns Inv-loop μ-loop
@@ -84,10 +84,10 @@ alone-in-spec =
     μ-loop
     loop-holds
     cast-at
-    mul-apart
-    shared-slice-read-apart
-    shared-slice-read-apart-2
-    apart-requires
+    mul-spares
+    shared-slice-read-spares
+    shared-slice-read-spares-2
+    spares-requires
     returns
     add-cell
     loop-less

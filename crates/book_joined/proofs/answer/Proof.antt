@@ -8,7 +8,7 @@ use borrow.Author.Needs.{needs}
 use Rattle.graph.specs.Forest.{climb}
 use Rattle.forest.specs.declared.Walk.{Walk}
 use Rattle.forest.specs.Arrays.{walked}
-use Rattle.book_state.specs.Arrays.{most}
+use Rattle.book_state.specs.Arrays.{stepLimit}
 use Rattle.book_joined.specs.Joined.{fourWalksOf}
 use Rattle.book_joined.specs.declared.JoinedAnswer.{JoinedAnswer}
 use Rattle.book_joined.proofs.Crossing.{backward-decides, forward-decides}
@@ -17,18 +17,18 @@ use Rattle.book_joined.proofs.answer.Statement.{statement}
 use Rattle.book_joined.proofs.answer.Tie as tie
 
 -- a walk takes at most 10 steps
-few : (up : ℕ → ℕ) (cell : ℕ) {w : Walk} → w ≡ walked (climb up most cell) → w .steps ≤ most
-few up cell e = subst⁻¹ (λ (w : Walk). w .steps ≤ most) e (climb-few up most cell)
+few : (up : ℕ → ℕ) (cell : ℕ) {w : Walk} → w ≡ walked (climb up stepLimit cell) → w .steps ≤ stepLimit
+few up cell e = subst⁻¹ (λ (w : Walk). w .steps ≤ stepLimit) e (climb-few up stepLimit cell)
 
-same-root : (up : ℕ → ℕ) (one other : ℕ) {v w : Walk} → v ≡ walked (climb up most one) → w ≡ walked (climb up most other) → v .root ≡ w .root
-    → climb up most one .root ≡ climb up most other .root
+same-root : (up : ℕ → ℕ) (one other : ℕ) {v w : Walk} → v ≡ walked (climb up stepLimit one) → w ≡ walked (climb up stepLimit other) → v .root ≡ w .root
+    → climb up stepLimit one .root ≡ climb up stepLimit other .root
 same-root up one other p q e = sym (ap (λ w. w .root) p) ∙ e ∙ ap (λ w. w .root) q
 
 -- so the steps of four walks are added up
-added : (up down : ℕ → ℕ) (one other : ℕ) {a b c d : Walk} → a ≡ walked (climb up most one) → b ≡ walked (climb up most other)
-    → c ≡ walked (climb down most one) → d ≡ walked (climb down most other)
+added : (up down : ℕ → ℕ) (one other : ℕ) {a b c d : Walk} → a ≡ walked (climb up stepLimit one) → b ≡ walked (climb up stepLimit other)
+    → c ≡ walked (climb down stepLimit one) → d ≡ walked (climb down stepLimit other)
     → a .steps + b .steps + c .steps + d .steps
-    ≡ climb up most one .steps + climb up most other .steps + climb down most one .steps + climb down most other .steps
+    ≡ climb up stepLimit one .steps + climb up stepLimit other .steps + climb down stepLimit one .steps + climb down stepLimit other .steps
 added up down one other p q r s i = p i .steps + q i .steps + r i .steps + s i .steps
 
 -- an answer is its parts

@@ -26,13 +26,13 @@ loop-holds c =
     (given .0, le-refl _, refl, given .1)
 
 -- the key has a list
-key-listed : (c : tie.After-number-at Inv-loop μ-loop) → c .number-at .result < length (c .before .before .loop .first)
-key-listed c = list-turn (c .before .before .loop .inv .3) (omega arith) (omega arith) (c .number-at .ensures) .0
+key-listed : (c : tie.After-entry-at Inv-loop μ-loop) → c .entry-at .result < length (c .before .before .loop .first)
+key-listed c = list-turn (c .before .before .loop .inv .3) (omega arith) (omega arith) (c .entry-at .ensures) .0
 
 loop-again : tie.Need-loop-again Inv-loop μ-loop
 loop-again c =
     let inv = c .before .before .before .loop .inv in
-    let turn = list-turn (inv .3) (omega arith) (omega arith) (c .before .number-at .ensures) in
+    let turn = list-turn (inv .3) (omega arith) (omega arith) (c .before .entry-at .ensures) in
     (inv .0, omega arith, simp length-set (inv .2), turn .1)
 
 returns : tie.Need-returns Inv-loop μ-loop

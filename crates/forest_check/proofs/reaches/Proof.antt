@@ -17,9 +17,9 @@ shl-top c = search needs
 
 returns-2 : tie.Need-returns-2
 returns-2 c =
-    let most = c .before .before .args .most in
+    let limit = c .before .before .args .limit in
     rw (le-leb _ _ (c .before .if1 .left))
-    (ap (leb (c .before .before .args .cells)) (shl-exact 1 most 64 (lit< tt) (omega arith) ∙ one-mul _))
+    (ap (leb (c .before .before .args .cells)) (shl-exact 1 limit 64 (lit< tt) (omega arith) ∙ one-mul _))
 
 returns-3 : tie.Need-returns-3
 returns-3 c =

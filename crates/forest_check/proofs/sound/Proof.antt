@@ -28,7 +28,7 @@ ranges : (c : tie.Else3) → (let a = c .before .before .before .before .before 
 ranges c = ranged _ _ (long (c .before .before .before .before)) (parents (c .before .before)) (sizes c)
 
 -- what the quick way has asked
-quick : (c : tie.Then4) → (let a = c .before .before .before .before .before .before .before .before .before .args in (length (a .parent .now) ≤ 1024) × (length (a .parent .now) ≤ 2 ^ a .most))
+quick : (c : tie.Then4) → (let a = c .before .before .before .before .before .before .before .before .before .args in (length (a .parent .now) ≤ 1024) × (length (a .parent .now) ≤ 2 ^ a .limit))
 quick c =
     let both = and-eq-true-iff _ _ .0 (sym (c .before .reaches .ensures) ∙ c .if4 .taken) in
     (leb-true _ _ (both .0), leb-true _ _ (both .1))

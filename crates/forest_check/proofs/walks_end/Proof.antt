@@ -12,10 +12,10 @@ use Rattle.forest_check.proofs.walks_end.Statement.{statement}
 use Rattle.forest_check.proofs.walks_end.Tie as tie
 
 abbrev Inv-loop : tie.InvT-loop
-Inv-loop parent most i₀ i = Tested (endsFrom parent most) parent true i
+Inv-loop parent limit i₀ i = Tested (endsFrom parent limit) parent true i
 
 abbrev μ-loop : tie.MeasureT-loop
-μ-loop parent most i₀ i = length parent - i
+μ-loop parent limit i₀ i = length parent - i
 
 loop-holds : tie.Need-loop-holds Inv-loop μ-loop
 loop-holds c = tested-none

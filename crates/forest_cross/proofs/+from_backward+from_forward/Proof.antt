@@ -10,7 +10,7 @@ use borrow.Fn.Kinds.{In}
 use borrow.Fn.PlainCycle.{Measures, is, falls, and}
 use Rattle.forest_cross.proofs.Passing.{Passing, passing-begins, shared-inside, passing-asks, crossed-already, passing-turns, rises, passed-all}
 use Rattle.forest_cross.proofs.Unmarked.{unmarked}
-use Rattle.buckets.proofs.number_at.Reads as number-at
+use Rattle.buckets.proofs.entry_at.Reads as entry-at
 use Rattle.forest_cross.proofs.from_backward.Reads as crossing
 use Rattle.forest_cross.proofs.from_backward.Kinds as kinds
 use Rattle.forest_cross.proofs.+from_backward+from_forward.Lts-from_backward as backward
@@ -38,7 +38,7 @@ pub +from-backward+from-forward-spec : {M : Type 1} → statement M
 +from-backward+from-forward-spec =
     close μ μ
     (λ t. backward.spec
-    (number-at.Asked, number-at.Learnt, asked-below t, crossing.Post)
+    (entry-at.Asked, entry-at.Learnt, asked-below t, crossing.Post)
     (given-at t)
     crossing.Post
     (Inv-loop t)
@@ -47,7 +47,7 @@ pub +from-backward+from-forward-spec : {M : Type 1} → statement M
     (λ c. omega arith)
     (λ c κs. omega arith)
     -- the loop begins
-    (λ c. let given = c .before .before .before .before .before .before .before .before .before .pre in passing-begins (given .0) (given .1 .0) (given .1 .1) (c .number-at .ensures))
+    (λ c. let given = c .before .before .before .before .before .before .before .before .before .pre in passing-begins (given .0) (given .1 .0) (given .1 .1) (c .entry-at .ensures))
     -- the cell's shared group, its mark, and the call
     (λ c κs. omega arith)
     (λ c. omega (arith, shared-inside (c .before .before .before .loop .inv) (omega arith) (c .before .number-at2 .ensures)))
@@ -65,14 +65,14 @@ pub +from-backward+from-forward-spec : {M : Type 1} → statement M
     (λ c. passed-all (c .before .loop .inv) (c .loop-test .left)))
     -- and word for word the same
     (λ t. forward.spec
-    (number-at.Asked, number-at.Learnt, asked-below t, crossing.Post)
+    (entry-at.Asked, entry-at.Learnt, asked-below t, crossing.Post)
     (given-at t)
     crossing.Post
     (Inv-loop t)
     μ-loop
     (λ c. omega arith)
     (λ c κs. omega arith)
-    (λ c. let given = c .before .before .before .before .before .before .before .before .before .pre in passing-begins (given .0) (given .1 .0) (given .1 .1) (c .number-at .ensures))
+    (λ c. let given = c .before .before .before .before .before .before .before .before .before .pre in passing-begins (given .0) (given .1 .0) (given .1 .1) (c .entry-at .ensures))
     (λ c κs. omega arith)
     (λ c. omega (arith, shared-inside (c .before .before .before .loop .inv) (omega arith) (c .before .number-at2 .ensures)))
     (λ c κs. let inv = c .before .before .before .before .before .before .loop .inv in passing-asks inv (shared-inside inv (omega arith) (c .before .before .before .before .number-at2 .ensures)) (c .before .before .if1 .taken))

@@ -4,7 +4,7 @@ use mathlib.Core.Path.{_≡_, refl, sym, ap, _∙_}
 use borrow.Author.Needs.{needs}
 use borrow.Author.Tests.{eq-eqb}
 use Rattle.forest.specs.Arrays.{walkOf}
-use Rattle.forest_unite.specs.United.{hangRoots, hangOf}
+use Rattle.forest_unite.specs.United.{mergeOfRoots, mergeOf}
 use Rattle.forest_unite.proofs.unite.Statement.{statement}
 use Rattle.forest_unite.proofs.unite.Tie as tie
 
@@ -22,40 +22,40 @@ returns : tie.Need-returns
 returns c =
     let d = c .before in
     let args = entry d .args in
-    let one-root : walkOf (args .parent .now) (args .most) (args .one) .root ≡ walkOf (args .parent .now) (args .most) (args .other) .root =
+    let one-root : walkOf (args .parent .now) (args .limit) (args .one) .root ≡ walkOf (args .parent .now) (args .limit) (args .other) .root =
     sym (d .before .before .before .root .ensures) ∙ c .if1 .taken ∙ d .root2 .ensures in
     record { parents = rw (eq-eqb _ _ one-root); sizes = rw (eq-eqb _ _ one-root); labels = rw (eq-eqb _ _ one-root) }
 
-hang-roots-requires : tie.Need-hang-roots-requires
-hang-roots-requires c κs = tt
+merge-of-roots-requires : tie.Need-merge-of-roots-requires
+merge-of-roots-requires c κs = tt
 
-hang-parent-requires : tie.Need-hang-parent-requires
-hang-parent-requires c κs = tt
+merge-parents-requires : tie.Need-merge-parents-requires
+merge-parents-requires c κs = tt
 
-hang-size-requires : tie.Need-hang-size-requires
-hang-size-requires c κs = tt
+merge-sizes-requires : tie.Need-merge-sizes-requires
+merge-sizes-requires c κs = tt
 
-hang-label-requires : tie.Need-hang-label-requires
-hang-label-requires c κs = tt
+merge-labels-requires : tie.Need-merge-labels-requires
+merge-labels-requires c κs = tt
 
 -- what was read
-read : (c : tie.After-hang-roots) →
+read : (c : tie.After-merge-of-roots) →
     (let args = entry (c .before .before .before .before) .args in
-    c .hang-roots .result ≡ hangOf (args .parent .now) (args .size .now) (args .most) (args .one) (args .other))
+    c .merge-of-roots .result ≡ mergeOf (args .parent .now) (args .size .now) (args .limit) (args .one) (args .other))
 read c =
     let d = c .before .before .before .before in
     let args = entry d .args in
-    c .hang-roots .ensures
-    ∙ ap (λ a. hangRoots (args .size .now) a (d .root2 .result)) (d .before .before .before .root .ensures)
-    ∙ ap (hangRoots (args .size .now) (walkOf (args .parent .now) (args .most) (args .one) .root)) (d .root2 .ensures)
+    c .merge-of-roots .ensures
+    ∙ ap (λ a. mergeOfRoots (args .size .now) a (d .root2 .result)) (d .before .before .before .root .ensures)
+    ∙ ap (mergeOfRoots (args .size .now) (walkOf (args .parent .now) (args .limit) (args .one) .root)) (d .root2 .ensures)
 
 returns-2 : tie.Need-returns-2
 returns-2 c =
-    let hang = read (c .before .before .before .before .before .before) in
+    let merge-of = read (c .before .before .before .before .before .before) in
     record {
-      parents = rw (← hang) (c .before .before .before .before .hang-parent .ensures);
-      sizes = rw (← hang) (c .before .before .hang-size .ensures);
-      labels = rw (← hang) (c .hang-label .ensures);
+      parents = rw (← merge-of) (c .before .before .before .before .merge-parents .ensures);
+      sizes = rw (← merge-of) (c .before .before .merge-sizes .ensures);
+      labels = rw (← merge-of) (c .merge-labels .ensures);
     }
 
 pub unite-spec : {M : Type 1} → statement M
@@ -65,8 +65,8 @@ unite-spec =
     root-requires
     root-requires-2
     returns
-    hang-roots-requires
-    hang-parent-requires
-    hang-size-requires
-    hang-label-requires
+    merge-of-roots-requires
+    merge-parents-requires
+    merge-sizes-requires
+    merge-labels-requires
     returns-2)

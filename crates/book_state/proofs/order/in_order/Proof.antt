@@ -6,7 +6,7 @@ use borrow.Author.Tests.{not-true, not-false}
 use Rattle.settings.specs.Settings.{heldInRange}
 use Rattle.slides.specs.Clock.{clockInRange}
 use Rattle.forest_check.specs.Sound.{every, within, soundOf}
-use Rattle.book_state.specs.Arrays.{most}
+use Rattle.book_state.specs.Arrays.{stepLimit}
 use Rattle.book_state.specs.Order.{inOrderOf}
 use Rattle.book_state.proofs.Checks.{unless-passed, unless-failed}
 use Rattle.book_state.proofs.order.in_order.Statement.{statement}
@@ -41,10 +41,10 @@ unheld c = unless-failed _ 2 (λ e. c .if2 .taken (c .before .judge .ensures ∙
 few : (c : tie.Else3) → every (within 0 257) 0 (entry3 c .args .counts .now) ≡ true
 few c = sym (c .before .all-within .ensures) ∙ not-false _ (c .if3 .left)
 
-forward : (c : tie.Else4) → (let args = entry4 c .args in soundOf (args .forward-parent .now) (args .forward-size .now) most ≡ true)
+forward : (c : tie.Else4) → (let args = entry4 c .args in soundOf (args .forward-parent .now) (args .forward-size .now) stepLimit ≡ true)
 forward c = sym (c .before .sound .ensures) ∙ not-false _ (c .if4 .left)
 
-backward : (c : tie.Else5) → (let args = entry5 c .args in soundOf (args .backward-parent .now) (args .backward-size .now) most ≡ true)
+backward : (c : tie.Else5) → (let args = entry5 c .args in soundOf (args .backward-parent .now) (args .backward-size .now) stepLimit ≡ true)
 backward c = sym (c .before .sound2 .ensures) ∙ not-false _ (c .if5 .left)
 
 in-range-requires : tie.Need-in-range-requires

@@ -7,12 +7,12 @@ use Rattle.chain_fewest.proofs.descent.descend.Statement.{statement}
 use Rattle.chain_fewest.proofs.descent.descend.Tie as tie
 
 abbrev Inv-loop : tie.InvT-loop
-Inv-loop ones others first-one next-one first-other next-other left one other chain₀ cell₀ place₀ chain cell place =
-    Descending ones others first-one next-one first-other next-other left one other chain₀ chain place cell
+Inv-loop ones others first-one next-one first-other next-other remaining one other chain₀ cell₀ place₀ chain cell place =
+    Descending ones others first-one next-one first-other next-other remaining one other chain₀ chain place cell
 
 abbrev μ-loop : tie.MeasureT-loop
-μ-loop ones others first-one next-one first-other next-other left one other chain₀ cell₀ place₀ chain cell place =
-    getD left cell 0
+μ-loop ones others first-one next-one first-other next-other remaining one other chain₀ cell₀ place₀ chain cell place =
+    getD remaining cell 0
 
 loop-holds : tie.Need-loop-holds Inv-loop μ-loop
 loop-holds c = descending-begins (c .before .before .before .before .before .before .before .before .pre)

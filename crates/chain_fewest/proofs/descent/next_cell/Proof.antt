@@ -11,7 +11,7 @@ returns : tie.Need-returns
 returns c =
     let read = c .before .before in
     let given = read .before .before .before .before .before .before .before .before .pre in
-    next-found (given .0) (ap (λ n. n - 1) (read .number-at .ensures)) (c .before .smallest-across .ensures)
+    next-found (given .0) (ap (λ n. n - 1) (read .entry-at .ensures)) (c .before .smallest-across .ensures)
     (c .smallest-across2 .ensures) (given .1 .1 .1)
 
 pub next-cell-spec : {M : Type 1} → statement M

@@ -13,31 +13,31 @@ use Rattle.chain_fewest.proofs.descent.smallest_across.Statement.{state
 use Rattle.chain_fewest.proofs.descent.smallest_across.Tie as tie
 
 abbrev Inv-loop : tie.InvT-loop
-Inv-loop from to first next left cell number best found₀ link₀ found link =
-    Finding from to first next left cell number best found link
+Inv-loop from to first next remaining cell number best found₀ link₀ found link =
+    Finding from to first next remaining cell number best found link
 
 abbrev μ-loop : tie.MeasureT-loop
-μ-loop from to first next left cell number best found₀ link₀ found link = length from - link
+μ-loop from to first next remaining cell number best found₀ link₀ found link = length from - link
 
-number-at-requires : tie.Need-number-at-requires Inv-loop μ-loop
-number-at-requires c κs =
+entry-at-requires : tie.Need-entry-at-requires Inv-loop μ-loop
+entry-at-requires c κs =
     let given = c .before .before .before .before .before .pre in
     rw (given .0 .listed .firstLong) (given .1)
 
 loop-holds : tie.Need-loop-holds Inv-loop μ-loop
 loop-holds c =
     let given = c .before .before .before .before .before .before .pre in
-    finding-begins (given .0) (given .1) (c .number-at .ensures)
+    finding-begins (given .0) (given .1) (c .entry-at .ensures)
 
-number-at-requires-2 : tie.Need-number-at-requires-2 Inv-loop μ-loop
-number-at-requires-2 c κs = rw (c .before .loop .inv .lists .even) (c .loop-test .taken)
+entry-at-requires-2 : tie.Need-entry-at-requires-2 Inv-loop μ-loop
+entry-at-requires-2 c κs = rw (c .before .loop .inv .lists .even) (c .loop-test .taken)
 
-number-at-requires-3 : tie.Need-number-at-requires-3 Inv-loop μ-loop
-number-at-requires-3 c κs =
+entry-at-requires-3 : tie.Need-entry-at-requires-3 Inv-loop μ-loop
+entry-at-requires-3 c κs =
     across-inside (c .before .before .loop .inv .lists) (c .before .loop-test .taken) (c .number-at2 .ensures)
 
-number-at-requires-4 : tie.Need-number-at-requires-4 Inv-loop μ-loop
-number-at-requires-4 c κs =
+entry-at-requires-4 : tie.Need-entry-at-requires-4 Inv-loop μ-loop
+entry-at-requires-4 c κs =
     let at = c .before .before .before in
     omega (arith, at .before .loop .inv .lists .listed .nextLong, at .loop-test .taken)
 
@@ -64,12 +64,12 @@ smallest-across-spec =
     (tie.spec
     Inv-loop
     μ-loop
-    number-at-requires
+    entry-at-requires
     loop-holds
-    number-at-requires-2
-    number-at-requires-3
+    entry-at-requires-2
+    entry-at-requires-3
     (λ c κs. search needs)
-    number-at-requires-4
+    entry-at-requires-4
     loop-less
     loop-again
     returns)

@@ -10,17 +10,17 @@ use Rattle.chain_fewest.proofs.levels.count_cells.Statement.{statement}
 use Rattle.chain_fewest.proofs.levels.count_cells.Tie as tie
 
 abbrev Inv-loop : tie.InvT-loop
-Inv-loop ones others first-one next-one first-other next-other other left₀ queue₀ head₀ tail₀ left queue head tail =
-    Counting ones others first-one next-one first-other next-other other left queue head tail
+Inv-loop ones others first-one next-one first-other next-other other remaining₀ queue₀ head₀ tail₀ remaining queue head tail =
+    Counting ones others first-one next-one first-other next-other other remaining queue head tail
 
 abbrev μ-loop : tie.MeasureT-loop
-μ-loop ones others first-one next-one first-other next-other other left₀ queue₀ head₀ tail₀ left queue head tail =
+μ-loop ones others first-one next-one first-other next-other other remaining₀ queue₀ head₀ tail₀ remaining queue head tail =
     1024 - head
 
 loop-holds : tie.Need-loop-holds Inv-loop μ-loop
 loop-holds c =
     let start = c .before .before .before .before .before .before .before in
-    counting-begins (start .args .left .now) (start .pre .0) (start .pre .1 .1 .0) (start .pre .1 .0) (start .pre .1 .1 .1)
+    counting-begins (start .args .remaining .now) (start .pre .0) (start .pre .1 .1 .0) (start .pre .1 .0) (start .pre .1 .1 .1)
 
 reach-requires : tie.Need-reach-requires Inv-loop μ-loop
 reach-requires c κs = ready-forth (c .before .before .before .loop .inv) (c .before .before .loop-test .taken)

@@ -11,23 +11,23 @@ use Rattle.chain_fewest.proofs.levels.reach.Statement.{statement}
 use Rattle.chain_fewest.proofs.levels.reach.Tie as tie
 
 abbrev Inv-loop : tie.InvT-loop
-Inv-loop from to first next head left₀ queue₀ tail cell number end₀ link₀ left queue end link =
-    Reaching from to first next head left₀ queue₀ cell number left queue end × Passed from to cell left link
+Inv-loop from to first next head remaining₀ queue₀ tail cell number end₀ link₀ remaining queue end link =
+    Reaching from to first next head remaining₀ queue₀ cell number remaining queue end × Passed from to cell remaining link
 
 abbrev μ-loop : tie.MeasureT-loop
-μ-loop from to first next head left₀ queue₀ tail cell number end₀ link₀ left queue end link = length from - link
+μ-loop from to first next head remaining₀ queue₀ tail cell number end₀ link₀ remaining queue end link = length from - link
 
 -- the cell at head has a list and a small number
 head-facts :
-    (c : tie.After-number-at Inv-loop μ-loop) →
+    (c : tie.After-entry-at Inv-loop μ-loop) →
     let start = c .before .before .before .before .before .before .before .before in
     (start .args .head < length (start .args .queue .now))
-    × (c .number-at .result < length (start .args .left .now))
-    × (getD (start .args .left .now) (c .number-at .result) 0 ≤ start .args .head + 1)
-    × (start .args .tail ≤ length (start .args .left .now))
+    × (c .entry-at .result < length (start .args .remaining .now))
+    × (getD (start .args .remaining .now) (c .entry-at .result) 0 ≤ start .args .head + 1)
+    × (start .args .tail ≤ length (start .args .remaining .now))
 head-facts c =
     let given = c .before .before .before .before .before .before .before .before .pre in
-    head-waits given (c .number-at .ensures)
+    head-waits given (c .entry-at .ensures)
 
 -- the cell across the link, and room for it
 across-facts : (c : tie.After-number-at3 Inv-loop μ-loop) → c .number-at3 .result < length (c .before .before .loop .left)
@@ -44,29 +44,29 @@ room c =
     let inv = at .before .loop .inv in
     reach-room (inv .0) (inv .1) (at .loop-test .taken) (c .before .before .number-at3 .ensures) (c .if1 .taken)
 
-number-at-requires : tie.Need-number-at-requires Inv-loop μ-loop
-number-at-requires c κs =
+entry-at-requires : tie.Need-entry-at-requires Inv-loop μ-loop
+entry-at-requires c κs =
     let given = c .before .before .before .before .before .before .before .pre in
     head-waits given refl .0
 
 add-number : tie.Need-add-number Inv-loop μ-loop
 add-number c = omega (arith, head-facts (c .before))
 
-number-at-requires-2 : tie.Need-number-at-requires-2 Inv-loop μ-loop
-number-at-requires-2 c κs =
+entry-at-requires-2 : tie.Need-entry-at-requires-2 Inv-loop μ-loop
+entry-at-requires-2 c κs =
     let lists = c .before .before .before .before .before .before .before .before .before .pre .lists in
     rw (lists .listed .firstLong) (head-facts (c .before) .1)
 
 loop-holds : tie.Need-loop-holds Inv-loop μ-loop
 loop-holds c =
     let given = c .before .before .before .before .before .before .before .before .before .before .pre in
-    reach-begins given (c .before .before .number-at .ensures) refl (c .number-at2 .ensures)
+    reach-begins given (c .before .before .entry-at .ensures) refl (c .number-at2 .ensures)
 
-number-at-requires-3 : tie.Need-number-at-requires-3 Inv-loop μ-loop
-number-at-requires-3 c κs = rw (c .before .loop .inv .0 .lists .even) (c .loop-test .taken)
+entry-at-requires-3 : tie.Need-entry-at-requires-3 Inv-loop μ-loop
+entry-at-requires-3 c κs = rw (c .before .loop .inv .0 .lists .even) (c .loop-test .taken)
 
-number-at-requires-4 : tie.Need-number-at-requires-4 Inv-loop μ-loop
-number-at-requires-4 c κs = omega (arith, c .before .before .before .before .loop .inv .0 .lists .listed .nextLong)
+entry-at-requires-4 : tie.Need-entry-at-requires-4 Inv-loop μ-loop
+entry-at-requires-4 c κs = omega (arith, c .before .before .before .before .loop .inv .0 .lists .listed .nextLong)
 
 loop-less : tie.Need-loop-less Inv-loop μ-loop
 loop-less c =
@@ -91,13 +91,13 @@ reach-spec =
     (tie.spec
     Inv-loop
     μ-loop
-    number-at-requires
+    entry-at-requires
     (λ c. omega (arith, head-facts c))
     (λ c. omega (arith, head-facts (c .before)))
     add-number
-    number-at-requires-2
+    entry-at-requires-2
     loop-holds
-    number-at-requires-3
+    entry-at-requires-3
     (λ c. omega (arith, across-facts c))
     (λ c. omega (arith, across-facts (c .before)))
     (λ c. omega (arith, across-facts (c .before .before)))
@@ -106,7 +106,7 @@ reach-spec =
     (λ c. omega (arith, room c))
     room
     (λ c. omega (arith, room c))
-    number-at-requires-4
+    entry-at-requires-4
     loop-less
     loop-again
     (λ c. c .before .loop .inv .0 .leftLong)

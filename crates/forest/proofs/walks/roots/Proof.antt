@@ -9,10 +9,10 @@ use Rattle.forest.proofs.walks.roots.Statement.{statement}
 use Rattle.forest.proofs.walks.roots.Tie as tie
 
 abbrev Inv-loop : tie.InvT-loop
-Inv-loop parent most found₀ cell₀ found cell = Filled (λ c. climb (parentIn parent) most c .root) 1024 found cell
+Inv-loop parent limit found₀ cell₀ found cell = Filled (λ c. climb (parentIn parent) limit c .root) 1024 found cell
 
 abbrev μ-loop : tie.MeasureT-loop
-μ-loop parent most found₀ cell₀ found cell = 1024 - cell
+μ-loop parent limit found₀ cell₀ found cell = 1024 - cell
 
 loop-holds : tie.Need-loop-holds Inv-loop μ-loop
 loop-holds c = record { within = omega arith; long = refl; filled = λ k h. absurd (omega arith) }

@@ -9,10 +9,10 @@ use Rattle.forest.proofs.walks.roots_at.Statement.{statement}
 use Rattle.forest.proofs.walks.roots_at.Tie as tie
 
 abbrev Inv-loop : tie.InvT-loop
-Inv-loop parent label most cut found₀ cell₀ found cell = Filled (λ c. climb (parentAtIn parent label cut) most c .root) 1024 found cell
+Inv-loop parent label limit cut found₀ cell₀ found cell = Filled (λ c. climb (parentAtIn parent label cut) limit c .root) 1024 found cell
 
 abbrev μ-loop : tie.MeasureT-loop
-μ-loop parent label most cut found₀ cell₀ found cell = 1024 - cell
+μ-loop parent label limit cut found₀ cell₀ found cell = 1024 - cell
 
 loop-holds : tie.Need-loop-holds Inv-loop μ-loop
 loop-holds c = record { within = omega arith; long = refl; filled = λ k h. absurd (omega arith) }

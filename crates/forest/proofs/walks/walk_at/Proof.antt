@@ -7,10 +7,10 @@ use Rattle.forest.proofs.walks.walk_at.Statement.{statement}
 use Rattle.forest.proofs.walks.walk_at.Tie as tie
 
 abbrev Inv-loop : tie.InvT-loop
-Inv-loop parent label most cut cell at₀ steps₀ at steps = Reached (parentAtIn parent label cut) most at₀ at steps
+Inv-loop parent label limit cut cell at₀ steps₀ at steps = Reached (parentAtIn parent label cut) limit at₀ at steps
 
 abbrev μ-loop : tie.MeasureT-loop
-μ-loop parent label most cut cell at₀ steps₀ at steps = most - steps
+μ-loop parent label limit cut cell at₀ steps₀ at steps = limit - steps
 
 loop-holds : tie.Need-loop-holds Inv-loop μ-loop
 loop-holds c = begins _ _ _

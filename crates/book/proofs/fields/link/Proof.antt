@@ -1,4 +1,4 @@
--- `book::lent::link` meets its contract: a refusal changes nothing, and else the time moves, and there is room for the link where
+-- `book::fields::link` meets its contract: a refusal changes nothing, and else the time moves, and there is room for the link where
 -- it moves to (proofs/Moves.antt).
 use Prim.Native.Nat.{ℕ}
 use mathlib.Core.List.{List}
@@ -9,11 +9,11 @@ use Rattle.book_state.specs.declared.Book.{Book}
 use Rattle.book_state.specs.Order.{bookOf, inOrder}
 use Rattle.book_state.specs.Log.{stored, storedIn}
 use Rattle.book_time.specs.Time.{movedBook}
-use Rattle.book.specs.Calls.{Outcome, Gives, Room, linkNumberIn, linkNumber, linkStored, linkBy, linkOf}
+use Rattle.book.specs.Calls.{Outcome, Gives, Room, linkNumberIn, linkNumber, linkStored, linkByNumber, linkOf}
 use Rattle.book_state.proofs.Checks.{readable}
 use Rattle.book.proofs.Taken.{refused, Taken, taken, link-room}
-use Rattle.book.proofs.lent.link.Statement.{statement}
-use Rattle.book.proofs.lent.link.Tie as tie
+use Rattle.book.proofs.fields.link.Statement.{statement}
+use Rattle.book.proofs.fields.link.Tie as tie
 
 -- the book of the lent fields, at the function's entry
 abbrev book : tie.Start → Book
@@ -53,10 +53,10 @@ same-length : tie.Need-same-length
 same-length c = search needs
 
 returns : tie.Need-returns
-unfolding linkOf linkBy
+unfolding linkOf linkByNumber
 returns c =
     let d = entry (c .before) in
-    refused (λ k. linkBy k (book d) (d .args .log .now) (d .args .tick) (d .args .one) (d .args .other)) (book d) (d .args .log .now) (λ k. refl) (numbered (c .before)) (c .if1 .taken)
+    refused (λ k. linkByNumber k (book d) (d .args .log .now) (d .args .tick) (d .args .one) (d .args .other)) (book d) (d .args .log .now) (λ k. refl) (numbered (c .before)) (c .if1 .taken)
 
 -- where the link is taken
 numbered-0 : (c : tie.Else1) → (let d = entry (c .before) in linkNumber (book d) (d .args .log .now) (d .args .tick) (d .args .one) (d .args .other) ≡ 0)
@@ -96,7 +96,7 @@ gives : {o : Outcome} {b : Book} {log : List ℕ} → record { book = b; log = l
 gives e = rw (← e) (record { answered = refl; logged = refl })
 
 returns-2 : tie.Need-returns-2
-unfolding linkOf linkBy
+unfolding linkOf linkByNumber
 returns-2 c =
     let s = c .before .before in
     let m = s .before .before .before .before .before in

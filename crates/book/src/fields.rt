@@ -7,11 +7,11 @@ ghost use mathlib.Core.Path.{_≡_};
 ghost use mathlib.Core.List.{List};
 ghost use Prim.Native.Nat.{ℕ};
 ghost use Rattle.book_state.specs.Order.{bookOf};
-ghost use Rattle.book.specs.Calls.{GivesLent, Room, openingOf, linkOf, linkStored, clockOf};
+ghost use Rattle.book.specs.Calls.{GivesFields, Room, openingOf, linkOf, linkStored, clockOf};
 
 // What a call over lent fields gives: the clock and the mounting after it, and the number of the table.
 #[repr(C)]
-pub struct LentAnswer {
+pub struct FieldsAnswer {
     pub clock: slides::Clock,
     pub mounting: u8,
     pub number: u8,
@@ -31,8 +31,8 @@ pub fn link(
     tick: u32,
     one: u16,
     other: u16,
-) -> LentAnswer
-    ensures { λ r. ⌜ GivesLent (linkOf (bookOf clock mounting (now (counts .entry)) (now («forward_parent» .entry)) (now («forward_size» .entry)) (now («backward_parent» .entry)) (now («backward_size» .entry)) (now («backward_label» .entry))) (now (log .entry)) tick one other) r (now (counts .exit)) (now («forward_parent» .exit)) (now («forward_size» .exit)) (now («backward_parent» .exit)) (now («backward_size» .exit)) (now («backward_label» .exit)) (now (log .exit)) ⌝ }
+) -> FieldsAnswer
+    ensures { λ r. ⌜ GivesFields (linkOf (bookOf clock mounting (now (counts .entry)) (now («forward_parent» .entry)) (now («forward_size» .entry)) (now («backward_parent» .entry)) (now («backward_size» .entry)) (now («backward_label» .entry))) (now (log .entry)) tick one other) r (now (counts .exit)) (now («forward_parent» .exit)) (now («forward_size» .exit)) (now («backward_parent» .exit)) (now («backward_size» .exit)) (now («backward_label» .exit)) (now (log .exit)) ⌝ }
 {
     let ordered = order::in_order(
         clock,
@@ -47,7 +47,7 @@ pub fn link(
     let held = spots::stored(clock, counts, slides::slide(clock, tick));
     let number = numbers::link_number(ordered, clock, held, log, tick, one, other);
     if number != 0 {
-        return LentAnswer {
+        return FieldsAnswer {
             clock,
             mounting,
             number,
@@ -75,7 +75,7 @@ pub fn link(
         first,
         second,
     );
-    LentAnswer {
+    FieldsAnswer {
         clock: moved,
         mounting,
         number: 0,
@@ -102,8 +102,8 @@ fn store(
     log[at + 1] = other;
     counts[spot] = count + 1;
     let h = forest_unite::roots::hang(forward_parent, forward_size, 10, one, other);
-    forest_unite::hang_parent(forward_parent, h);
-    forest_unite::hang_size(forward_size, h);
+    forest_unite::merge_parents(forward_parent, h);
+    forest_unite::merge_sizes(forward_size, h);
 }
 
 // The time moves to the tick, and nothing is logged.
@@ -118,8 +118,8 @@ pub fn clock(
     backward_label: &mut [u8; 1024],
     log: &[u16],
     tick: u32,
-) -> LentAnswer
-    ensures { λ r. ⌜ GivesLent (clockOf (bookOf clock mounting (now (counts .entry)) (now («forward_parent» .entry)) (now («forward_size» .entry)) (now («backward_parent» .entry)) (now («backward_size» .entry)) (now («backward_label» .entry))) (now (log .entry)) tick) r (now (counts .exit)) (now («forward_parent» .exit)) (now («forward_size» .exit)) (now («backward_parent» .exit)) (now («backward_size» .exit)) (now («backward_label» .exit)) (now (log .entry)) ⌝ }
+) -> FieldsAnswer
+    ensures { λ r. ⌜ GivesFields (clockOf (bookOf clock mounting (now (counts .entry)) (now («forward_parent» .entry)) (now («forward_size» .entry)) (now («backward_parent» .entry)) (now («backward_size» .entry)) (now («backward_label» .entry))) (now (log .entry)) tick) r (now (counts .exit)) (now («forward_parent» .exit)) (now («forward_size» .exit)) (now («backward_parent» .exit)) (now («backward_size» .exit)) (now («backward_label» .exit)) (now (log .entry)) ⌝ }
 {
     let ordered = order::in_order(
         clock,
@@ -133,7 +133,7 @@ pub fn clock(
     );
     let number = numbers::clock_number(ordered, clock, log, tick);
     if number != 0 {
-        return LentAnswer {
+        return FieldsAnswer {
             clock,
             mounting,
             number,
@@ -150,7 +150,7 @@ pub fn clock(
         log,
         tick,
     );
-    LentAnswer {
+    FieldsAnswer {
         clock: moved,
         mounting,
         number: 0,
@@ -169,12 +169,12 @@ pub fn opening(
     backward_label: &mut [u8; 1024],
     log: &mut [u16],
     s: Settings,
-) -> LentAnswer
-    ensures { λ r. ⌜ GivesLent (openingOf (bookOf clock mounting (now (counts .entry)) (now («forward_parent» .entry)) (now («forward_size» .entry)) (now («backward_parent» .entry)) (now («backward_size» .entry)) (now («backward_label» .entry))) (now (log .entry)) s) r (now (counts .exit)) (now («forward_parent» .exit)) (now («forward_size» .exit)) (now («backward_parent» .exit)) (now («backward_size» .exit)) (now («backward_label» .exit)) (now (log .exit)) ⌝ }
+) -> FieldsAnswer
+    ensures { λ r. ⌜ GivesFields (openingOf (bookOf clock mounting (now (counts .entry)) (now («forward_parent» .entry)) (now («forward_size» .entry)) (now («backward_parent» .entry)) (now («backward_size» .entry)) (now («backward_label» .entry))) (now (log .entry)) s) r (now (counts .exit)) (now («forward_parent» .exit)) (now («forward_size» .exit)) (now («backward_parent» .exit)) (now («backward_size» .exit)) (now («backward_label» .exit)) (now (log .exit)) ⌝ }
 {
     let number = numbers::opening_number(s, log);
     if number != 0 {
-        return LentAnswer {
+        return FieldsAnswer {
             clock,
             mounting,
             number,
@@ -189,7 +189,7 @@ pub fn opening(
         backward_label,
     );
     *counts = [0; 32];
-    LentAnswer {
+    FieldsAnswer {
         clock: slides::start(s),
         mounting: s.mounting,
         number: 0,

@@ -11,9 +11,9 @@ use Rattle.book_state.specs.Numbers.{firstOf}
 use Rattle.book_state.specs.Order.{bookOf, inOrder}
 use Rattle.book_state.proofs.Checks.{Ordered, ordered}
 use Rattle.book_joined.specs.declared.JoinedAnswer.{JoinedAnswer}
-use Rattle.book_joined.specs.Joined.{cutOf, stepLinks, fourWalks, answerOf, joinedNumber, joinedBy, joinedOf}
-use Rattle.book_joined.proofs.lent.Statement.{statement}
-use Rattle.book_joined.proofs.lent.Tie as tie
+use Rattle.book_joined.specs.Joined.{cutOf, stepLinks, fourWalks, answerOf, joinedNumber, joinedByNumber, joinedOf}
+use Rattle.book_joined.proofs.over_fields.Statement.{statement}
+use Rattle.book_joined.proofs.over_fields.Tie as tie
 
 -- ---- what the definition gives
 
@@ -22,21 +22,21 @@ refusal k = record { number = k; yes = false; steps = 0 }
 
 module _ (b : Book) (one other : ℕ) where
   out-of-order : inOrder b ≡ false → refusal 1 ≡ joinedOf b one other
-  unfolding joinedOf joinedNumber joinedBy firstOf
+  unfolding joinedOf joinedNumber joinedByNumber firstOf
   out-of-order e = rw e
 
   module _ (e : inOrder b ≡ true) where
     first-no-cell : cells ≤ one → refusal 3 ≡ joinedOf b one other
-    unfolding joinedOf joinedNumber joinedBy firstOf
+    unfolding joinedOf joinedNumber joinedByNumber firstOf
     first-no-cell h = rw (e, le-ltb one cells h)
 
     second-no-cell : one < cells → cells ≤ other → refusal 3 ≡ joinedOf b one other
-    unfolding joinedOf joinedNumber joinedBy firstOf
+    unfolding joinedOf joinedNumber joinedByNumber firstOf
     second-no-cell h k = rw (e, lt-ltb one cells h, le-ltb other cells k)
 
     two-cells : one < cells → other < cells
         → answerOf (cutOf b) (b .«backward_parent») (b .«backward_label») (b .«forward_parent») one other ≡ joinedOf b one other
-    unfolding joinedOf joinedNumber joinedBy firstOf stepLinks fourWalks
+    unfolding joinedOf joinedNumber joinedByNumber firstOf stepLinks fourWalks
     two-cells h k = rw (e, lt-ltb one cells h, lt-ltb other cells k)
 
 -- ---- the code
@@ -106,8 +106,8 @@ returns-4 c =
     (c .before .before .before .before .cut .ensures)
     ∙ two-cells (book start) _ _ (in-order (third .before .before)) (third .before .if2 .left) (third .if3 .left)
 
-pub lent-spec : {M : Type 1} → statement M
-lent-spec =
+pub over-fields-spec : {M : Type 1} → statement M
+over-fields-spec =
     tie.close
     (tie.spec
     in-order-requires

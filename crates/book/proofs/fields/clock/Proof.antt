@@ -1,12 +1,12 @@
--- `book::lent::clock` meets its contract: a refusal changes nothing, and else the time moves.
+-- `book::fields::clock` meets its contract: a refusal changes nothing, and else the time moves.
 use mathlib.Core.Path.{_≡_, refl, sym, ap, _∙_}
 use borrow.Author.Needs.{needs}
 use Rattle.book_state.specs.declared.Book.{Book}
 use Rattle.book_state.specs.Order.{bookOf}
-use Rattle.book.specs.Calls.{clockNumberIn, clockNumber, clockBy, clockOf}
+use Rattle.book.specs.Calls.{clockNumberIn, clockNumber, clockByNumber, clockOf}
 use Rattle.book.proofs.Taken.{refused, clock-readable}
-use Rattle.book.proofs.lent.clock.Statement.{statement}
-use Rattle.book.proofs.lent.clock.Tie as tie
+use Rattle.book.proofs.fields.clock.Statement.{statement}
+use Rattle.book.proofs.fields.clock.Tie as tie
 
 -- the book of the lent fields, at the function's entry
 abbrev book : tie.Start → Book
@@ -30,10 +30,10 @@ clock-number-requires : tie.Need-clock-number-requires
 clock-number-requires c κs = search needs
 
 returns : tie.Need-returns
-unfolding clockOf clockBy
+unfolding clockOf clockByNumber
 returns c =
     let d = entry (c .before) in
-    refused (λ k. clockBy k (book d) (d .args .log .now) (d .args .tick)) (book d) (d .args .log .now) (λ k. refl) (numbered (c .before)) (c .if1 .taken)
+    refused (λ k. clockByNumber k (book d) (d .args .log .now) (d .args .tick)) (book d) (d .args .log .now) (λ k. refl) (numbered (c .before)) (c .if1 .taken)
 
 -- where the tick is taken
 numbered-0 : (c : tie.Else1) → (let d = entry (c .before) in clockNumber (book d) (d .args .log .now) (d .args .tick) ≡ 0)
@@ -45,7 +45,7 @@ move-to-requires c κs =
     clock-readable (book (entry (d .before))) _ _ (numbered-0 d)
 
 returns-2 : tie.Need-returns-2
-unfolding clockOf clockBy
+unfolding clockOf clockByNumber
 returns-2 c =
     let d = c .before .before .before .before .before .before .before in
     rw (numbered-0 d) (record { answered = ap (λ b. record { book = b; number = 0 }) (c .move-to .ensures (entry (d .before) .args .mounting)); logged = refl })

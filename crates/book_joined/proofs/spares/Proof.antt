@@ -4,21 +4,21 @@ use mathlib.Core.Bool.{Bool, true, false, cond, not, _||_, or-true, or-false}
 use Prim.Native.Nat.{ℕ}
 use borrow.Author.Tests.{eq-eqb, ne-eqb}
 use lib.Dec.{eqb, ltb}
-use Rattle.book_joined.specs.Alone.{apart}
-use Rattle.book_joined.proofs.apart.Statement.{statement}
-use Rattle.book_joined.proofs.apart.Tie as tie
+use Rattle.book_joined.specs.Alone.{spares}
+use Rattle.book_joined.proofs.spares.Statement.{statement}
+use Rattle.book_joined.proofs.spares.Tie as tie
 
 own : (t : Bool) → cond t t (not t) ≡ true
 own true = refl
 own false = refl
 
-at-cut : (asked cell parent : ℕ) (t : Bool) → (t || apart asked cell parent) ≡ apart asked cell (cond t cell parent)
+at-cut : (asked cell parent : ℕ) (t : Bool) → (t || spares asked cell parent) ≡ spares asked cell (cond t cell parent)
 at-cut asked cell parent true = sym (own (eqb cell asked))
 at-cut asked cell parent false = refl
 
 kept : (c : tie.Start) {r : Bool} → (let a = c .args in
-    r ≡ (ltb (a .label) (a .cut) || apart (a .asked) (a .cell) (a .parent))
-    → r ≡ apart (a .asked) (a .cell) (cond (ltb (a .label) (a .cut)) (a .cell) (a .parent)))
+    r ≡ (ltb (a .label) (a .cut) || spares (a .asked) (a .cell) (a .parent))
+    → r ≡ spares (a .asked) (a .cell) (cond (ltb (a .label) (a .cut)) (a .cell) (a .parent)))
 kept c e = e ∙ at-cut (c .args .asked) (c .args .cell) (c .args .parent) (ltb (c .args .label) (c .args .cut))
 
 returns : tie.Need-returns
@@ -33,5 +33,5 @@ returns-3 c = kept (c .before .before) (simp (ne-eqb _ _ (c .before .if1 .left),
 returns-4 : tie.Need-returns-4
 returns-4 c = kept (c .before .before) (simp (ne-eqb _ _ (c .before .if1 .left), eq-eqb _ _ (c .if3 .left), or-false))
 
-pub apart-spec : {M : Type 1} → statement M
-apart-spec = tie.close (tie.spec returns returns-2 returns-3 returns-4)
+pub spares-spec : {M : Type 1} → statement M
+spares-spec = tie.close (tie.spec returns returns-2 returns-3 returns-4)

@@ -1,4 +1,4 @@
--- `book::lent::store` meets its contract: the spot is the open slide's, and each store is one of the definition's.
+-- `book::fields::store` meets its contract: the spot is the open slide's, and each store is one of the definition's.
 use Prim.Native.Nat.{_<_}
 use mathlib.Core.Path.{_≡_, refl, sym, ap, _∙_}
 use native.Mathlib.Omega.{arith}
@@ -7,8 +7,8 @@ use lib.ListN.{getD, length-set}
 use Rattle.slides.specs.Clock.{chunkOf, placeOf}
 use Rattle.book_state.specs.Log.{halfOf, spotOf}
 use Rattle.book.specs.Calls.{openSpot, linkStored}
-use Rattle.book.proofs.lent.store.Statement.{statement}
-use Rattle.book.proofs.lent.store.Tie as tie
+use Rattle.book.proofs.fields.store.Statement.{statement}
+use Rattle.book.proofs.fields.store.Tie as tie
 
 abbrev entry : tie.After-spot → tie.Start
 entry c = c .before .before .before
@@ -76,14 +76,14 @@ mul-counts c = omega (arith, low (c .before))
 element-write-counts : tie.Need-element-write-counts
 element-write-counts c = omega (arith, low (c .before))
 
-hang-requires : tie.Need-hang-requires
-hang-requires c κs = search needs
+merge-of-requires : tie.Need-merge-of-requires
+merge-of-requires c κs = search needs
 
-hang-parent-requires : tie.Need-hang-parent-requires
-hang-parent-requires c κs = search needs
+merge-parents-requires : tie.Need-merge-parents-requires
+merge-parents-requires c κs = search needs
 
-hang-size-requires : tie.Need-hang-size-requires
-hang-size-requires c κs = search needs
+merge-sizes-requires : tie.Need-merge-sizes-requires
+merge-sizes-requires c κs = search needs
 
 same-length : tie.Need-same-length
 same-length c = simp length-set
@@ -92,7 +92,7 @@ returns : tie.Need-returns
 unfolding linkStored
 returns c mounting backwardParent backwardSize backwardLabel =
     let spot = spot-is (c .before .before .before .before .before .before .before .before .before .before) in
-    rw (c .hang-size .ensures, c .before .before .hang-parent .ensures, c .before .before .before .before .hang .ensures, spot)
+    rw (c .merge-sizes .ensures, c .before .before .merge-parents .ensures, c .before .before .before .before .hang .ensures, spot)
 
 pub store-spec : {M : Type 1} → statement M
 store-spec =
@@ -115,8 +115,8 @@ store-spec =
     add-counts
     mul-counts
     element-write-counts
-    hang-requires
-    hang-parent-requires
-    hang-size-requires
+    merge-of-requires
+    merge-parents-requires
+    merge-sizes-requires
     same-length
     returns)

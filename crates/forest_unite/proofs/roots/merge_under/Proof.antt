@@ -1,6 +1,6 @@
 -- `uniting::roots::hang_under` meets its contract: the sum of the two sizes, modulo 2 ^ 16.
-use Rattle.forest_unite.proofs.roots.hang_under.Statement.{statement}
-use Rattle.forest_unite.proofs.roots.hang_under.Tie as tie
+use Rattle.forest_unite.proofs.roots.merge_under.Statement.{statement}
+use Rattle.forest_unite.proofs.roots.merge_under.Tie as tie
 
 size-of-requires : tie.Need-size-of-requires
 size-of-requires c κs = tt
@@ -14,5 +14,5 @@ wrapping-add-u16-requires c κs = tt
 returns : tie.Need-returns
 returns c = rw (c .wrapping-add-u16 .ensures, c .before .before .size-of .ensures, c .before .size-of2 .ensures)
 
-pub hang-under-spec : {M : Type 1} → statement M
-hang-under-spec = tie.close (tie.spec size-of-requires size-of-requires-2 wrapping-add-u16-requires returns)
+pub merge-under-spec : {M : Type 1} → statement M
+merge-under-spec = tie.close (tie.spec size-of-requires size-of-requires-2 wrapping-add-u16-requires returns)

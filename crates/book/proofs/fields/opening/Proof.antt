@@ -1,15 +1,15 @@
--- `book::lent::opening` meets its contract: a refusal changes nothing, and else the log is cleared and the book is fresh.
+-- `book::fields::opening` meets its contract: a refusal changes nothing, and else the log is cleared and the book is fresh.
 use mathlib.Core.Path.{_≡_, refl, sym, ap, _∙_}
 use native.Mathlib.Omega.{arith}
 use borrow.Author.Needs.{needs}
 use Rattle.book_state.specs.declared.Book.{Book}
 use Rattle.book_state.specs.Order.{bookOf}
 use Rattle.book_time.specs.Time.{emptied}
-use Rattle.book.specs.Calls.{openingNumber, openingBy, openingOf}
+use Rattle.book.specs.Calls.{openingNumber, openingByNumber, openingOf}
 use Rattle.book.proofs.Taken.{refused, opening-room}
 use Rattle.book_time.proofs.Moves.{emptied-made}
-use Rattle.book.proofs.lent.opening.Statement.{statement}
-use Rattle.book.proofs.lent.opening.Tie as tie
+use Rattle.book.proofs.fields.opening.Statement.{statement}
+use Rattle.book.proofs.fields.opening.Tie as tie
 
 -- the book of the lent fields, at the function's entry
 abbrev book : tie.Start → Book
@@ -27,10 +27,10 @@ same-length : tie.Need-same-length
 same-length c = search needs
 
 returns : tie.Need-returns
-unfolding openingOf openingBy
+unfolding openingOf openingByNumber
 returns c =
     let d = entry (c .before) in
-    refused (λ k. openingBy k (book d) (d .args .log .now) (d .args .s)) (book d) (d .args .log .now) (λ k. refl) (c .before .opening-number .ensures) (c .if1 .taken)
+    refused (λ k. openingByNumber k (book d) (d .args .log .now) (d .args .s)) (book d) (d .args .log .now) (λ k. refl) (c .before .opening-number .ensures) (c .if1 .taken)
 
 -- where the settings are taken
 numbered-0 : (c : tie.Else1) → (let d = entry (c .before) in openingNumber (d .args .s) (d .args .log .now) ≡ 0)
@@ -51,7 +51,7 @@ same-length-2 : tie.Need-same-length-2
 same-length-2 c = search needs
 
 returns-2 : tie.Need-returns-2
-unfolding openingOf openingBy
+unfolding openingOf openingByNumber
 returns-2 c =
     let d = c .before .before .before .before .before .before .before .before .before .before .before .before in
     let s = entry (d .before) .args .s in
