@@ -192,7 +192,7 @@ chains-false ls a b f x = true≢false (sym (true-chains x) ∙ f)
 
 pub false-chains : (ls : List Link) (a b : ℕ) → (Chained ls a b → ⊥) → chains ls a b ≡ false
 unfolding chains
-false-chains ls a b different = ne-eqb (group ls a) (group ls b) (λ e. apart (group-chained ls e))
+false-chains ls a b apart = ne-eqb (group ls a) (group ls b) (λ e. apart (group-chained ls e))
 
 pub chained? : (ls : List Link) (a b : ℕ) → Dec (Chained ls a b)
 chained? ls a b = map-dec (group-chained ls) chained-group (ℕ-discrete (group ls a) (group ls b))

@@ -48,7 +48,7 @@ merged-step {P} {f} {child} {top} label h p c s = go (ℕ-discrete c child) s
   where
     go : Dec (c ≡ child) → Step P f c → Step P (merged f label child top) c
     go (yes e) _ =
-        goes (λ q. h .different (sym e ∙ sym q ∙ put-here child top (f .parent) c e))
+        goes (λ q. h .apart (sym e ∙ sym q ∙ put-here child top (f .parent) c e))
         (rw (put-here child label (f .label) c e) p)
     go (no n) (stays r z) = stays (put-other child top (f .parent) c n ∙ r) (put-other child label (f .label) c n ∙ z)
     go (no n) (goes r q) =

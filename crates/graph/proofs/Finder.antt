@@ -178,7 +178,7 @@ trailOf-best {ls} {a} {b} x =
 -- where there is none, it gives the empty list
 pub trailOf-none : (ls : List Link) (a b : ℕ) → (Chained ls a b → ⊥) → trailOf ls a b ≡ []
 unfolding trailOfLinks
-trailOf-none ls a b different = go (fewestLinks ls a b) refl
+trailOf-none ls a b apart = go (fewestLinks ls a b) refl
   where
     go : (x : Option ℕ) → fewestLinks ls a b ≡ x → trailOf ls a b ≡ []
     go none e = trail-by ls a b e

@@ -91,7 +91,7 @@ module _ {k limit : ℕ} (enough : k ≤ limit) where
           (record {
             under = root _ (ends .0);
             over = root _ (ends .1);
-            different = n;
+            apart = n;
             lighter = under-le (f .size) a b e;
           })
       hang false n e =
@@ -99,7 +99,7 @@ module _ {k limit : ℕ} (enough : k ≤ limit) where
           (record {
             under = root _ (ends .1);
             over = root _ (ends .0);
-            different = λ s. n (sym s);
+            apart = λ s. n (sym s);
             lighter = over-le (f .size) a b e;
           })
 
@@ -121,7 +121,7 @@ module _ {k limit : ℕ} (enough : k ≤ limit) where
       walk limit (merged f label child top) c .root ≡ put child top (λ r. r) (walk limit f c .root)
   unfolding walk
   merged-root {f} g h label c =
-      let (w, way, root) = way-put (f .parent) (h .under .stays) (h .over .stays) (h .different) (walk-way g c) in
+      let (w, way, root) = way-put (f .parent) (h .under .stays) (h .over .stays) (h .apart) (walk-way g c) in
       ap (λ w. w .root) (way-climb way limit (le-trans (way-short (merged-grown g h label .doubles) way) enough)) ∙ root
 
   -- a cell that was chained with its root is chained with its new one
@@ -152,7 +152,7 @@ module _ {k limit : ℕ} (enough : k ≤ limit) where
       rootsOf limit f′ x .one ≡ rootsOf limit f′ x .other
   united-ends g (kept e) = e
   united-ends {x} g (hangs b h) =
-      merged-root g h (x .label) _ ∙ between-meet (h .different) b ∙ sym (merged-root g h (x .label) _)
+      merged-root g h (x .label) _ ∙ between-meet (h .apart) b ∙ sym (merged-root g h (x .label) _)
 
   united-linked : {f f′ : Forest} {x : Labelled} {ls : List Link} → Grown k f → United k limit f x f′ →
       ((a b : ℕ) → Linked a b ls → walk limit f a .root ≡ walk limit f b .root) →

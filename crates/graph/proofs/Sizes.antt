@@ -103,7 +103,7 @@ module _ {k : ℕ} {f : Forest} {child top : ℕ} (g : Grown k f) (h : Merges k 
       go : Dec (c ≡ child) → 2 * new .size c ≤ new .size (new .parent c)
       go (yes e) =
           rw (put-here child top (f .parent) c e, e)
-          (omega (arith, size-top top refl, size-other child (h .different), h .lighter))
+          (omega (arith, size-top top refl, size-other child (h .apart), h .lighter))
       go (no n) =
           let same : new .parent c ≡ f .parent c = put-other child top (f .parent) c n in
           let moved : ¬ (f .parent c ≡ c) = λ q. moves (same ∙ q) in
@@ -118,7 +118,7 @@ module _ {k : ℕ} {f : Forest} {child top : ℕ} (g : Grown k f) (h : Merges k 
   root-sizes c = go (ℕ-discrete c child) (ℕ-discrete c top)
     where
       go : Dec (c ≡ child) → Dec (c ≡ top) → rootSize new c ≡ moved c
-      go (yes e) _ = simp (eq-eqb c child e, ne-eqb top c (λ q. h .different (sym (q ∙ e))))
+      go (yes e) _ = simp (eq-eqb c child e, ne-eqb top c (λ q. h .apart (sym (q ∙ e))))
       go (no n) (yes e) = simp (ne-eqb c child n, eq-eqb c top e, eq-eqb (f .parent c) c (rw e (h .over .stays)))
       go (no n) (no m) = simp (ne-eqb c child n, ne-eqb c top m)
 
@@ -130,7 +130,7 @@ module _ {k : ℕ} {f : Forest} {child top : ℕ} (g : Grown k f) (h : Merges k 
         total-same (rootSize new) moved (2 ^ k) (λ c _. root-sizes c),
         total-put (put top both (rootSize f)) child 0 (2 ^ k) (h .under .below),
         total-put (rootSize f) top both (2 ^ k) (h .over .below),
-        put-other top both (rootSize f) child (h .different),
+        put-other top both (rootSize f) child (h .apart),
         root-size f child (h .under .stays),
         root-size f top (h .over .stays),
       )
@@ -142,7 +142,7 @@ module _ {k : ℕ} {f : Forest} {child top : ℕ} (g : Grown k f) (h : Merges k 
         merged-whole,
         part-of-total (rootSize new) top (2 ^ k) (h .over .below),
         root-sizes top,
-        put-other child 0 (put top both (rootSize f)) top (λ q. h .different (sym q)),
+        put-other child 0 (put top both (rootSize f)) top (λ q. h .apart (sym q)),
         put-here top both (rootSize f) top refl,
       )
 

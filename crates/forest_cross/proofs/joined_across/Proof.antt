@@ -12,8 +12,8 @@ use Rattle.forest_cross.proofs.joined_across.Tie as tie
 start-inside : (c : tie.After-entry-at) → c .entry-at .result < 1024
 start-inside c = omega (arith, keyed-inside (c .before .before .pre .0) (omega arith) (c .entry-at .ensures))
 
-asked-inside : (c : tie.After-number-at2) → c .number-at2 .result < 1024
-asked-inside c = omega (arith, keyed-inside (c .before .before .before .before .pre .0) (omega arith) (c .number-at2 .ensures))
+asked-inside : (c : tie.After-entry-at2) → c .entry-at2 .result < 1024
+asked-inside c = omega (arith, keyed-inside (c .before .before .before .before .pre .0) (omega arith) (c .entry-at2 .ensures))
 
 list-entries-requires : tie.Need-list-entries-requires
 list-entries-requires c κs =
@@ -41,7 +41,7 @@ returns : tie.Need-returns
 returns c =
     let groups = c .before .before .before .before .before .before .before .before .before .before .before .before .before .before .before .before .before .before .before .before .before .before .before in
     let given = groups .before .before .before .before in
-    mark-answers 1024 (omega (arith, given)) (omega (arith, given)) (groups .before .before .entry-at .ensures) (c .before .before .from-backward .ensures) (omega (arith, given)) (groups .number-at2 .ensures)
+    mark-answers 1024 (omega (arith, given)) (omega (arith, given)) (groups .before .before .entry-at .ensures) (c .before .before .from-backward .ensures) (omega (arith, given)) (groups .entry-at2 .ensures)
 
 pub joined-across-spec : {M : Type 1} → statement M
 joined-across-spec =

@@ -34,7 +34,7 @@ entry-at-requires-2 c κs = rw (c .before .loop .inv .lists .even) (c .loop-test
 
 entry-at-requires-3 : tie.Need-entry-at-requires-3 Inv-loop μ-loop
 entry-at-requires-3 c κs =
-    across-inside (c .before .before .loop .inv .lists) (c .before .loop-test .taken) (c .number-at2 .ensures)
+    across-inside (c .before .before .loop .inv .lists) (c .before .loop-test .taken) (c .entry-at2 .ensures)
 
 entry-at-requires-4 : tie.Need-entry-at-requires-4 Inv-loop μ-loop
 entry-at-requires-4 c κs =
@@ -44,16 +44,16 @@ entry-at-requires-4 c κs =
 loop-less : tie.Need-loop-less Inv-loop μ-loop
 loop-less c =
     let at = c .before .before .before .before in
-    omega (arith, entry-rises (at .before .loop .inv .lists .listed) (at .loop-test .taken) (c .number-at4 .ensures), at .loop-test .taken)
+    omega (arith, entry-rises (at .before .loop .inv .lists .listed) (at .loop-test .taken) (c .entry-at4 .ensures), at .loop-test .taken)
 
 loop-again : tie.Need-loop-again Inv-loop μ-loop
 loop-again c =
     let at = c .before .before .before .before in
-    let read = c .before .before .number-at3 .ensures in
-    finding-turns (at .before .loop .inv) (at .loop-test .taken) (c .before .before .before .number-at2 .ensures)
+    let read = c .before .before .entry-at3 .ensures in
+    finding-turns (at .before .loop .inv) (at .loop-test .taken) (c .before .before .before .entry-at2 .ensures)
     (⊎-map (λ w. (sym read ∙ w .0 .taken, w .2 ∙ w .1 .ensures)) (λ w. (λ has. w .0 .left (read ∙ has), w .1))
     (c .before .if1 .came))
-    (c .number-at4 .ensures)
+    (c .entry-at4 .ensures)
 
 returns : tie.Need-returns Inv-loop μ-loop
 returns c = finding-ends (c .before .loop .inv) (c .loop-test .left)

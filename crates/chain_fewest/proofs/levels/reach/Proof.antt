@@ -30,10 +30,10 @@ head-facts c =
     head-waits given (c .entry-at .ensures)
 
 -- the cell across the link, and room for it
-across-facts : (c : tie.After-number-at3 Inv-loop μ-loop) → c .number-at3 .result < length (c .before .before .loop .left)
+across-facts : (c : tie.After-entry-at3 Inv-loop μ-loop) → c .entry-at3 .result < length (c .before .before .loop .left)
 across-facts c =
     let inv = c .before .before .loop .inv in
-    reach-inside (inv .0) (inv .1) (c .before .loop-test .taken) (c .number-at3 .ensures)
+    reach-inside (inv .0) (inv .1) (c .before .loop-test .taken) (c .entry-at3 .ensures)
 
 room :
     (c : tie.Then1 Inv-loop μ-loop) →
@@ -42,7 +42,7 @@ room :
 room c =
     let at = c .before .before .before in
     let inv = at .before .loop .inv in
-    reach-room (inv .0) (inv .1) (at .loop-test .taken) (c .before .before .number-at3 .ensures) (c .if1 .taken)
+    reach-room (inv .0) (inv .1) (at .loop-test .taken) (c .before .before .entry-at3 .ensures) (c .if1 .taken)
 
 entry-at-requires : tie.Need-entry-at-requires Inv-loop μ-loop
 entry-at-requires c κs =
@@ -60,7 +60,7 @@ entry-at-requires-2 c κs =
 loop-holds : tie.Need-loop-holds Inv-loop μ-loop
 loop-holds c =
     let given = c .before .before .before .before .before .before .before .before .before .before .pre in
-    reach-begins given (c .before .before .entry-at .ensures) refl (c .number-at2 .ensures)
+    reach-begins given (c .before .before .entry-at .ensures) refl (c .entry-at2 .ensures)
 
 entry-at-requires-3 : tie.Need-entry-at-requires-3 Inv-loop μ-loop
 entry-at-requires-3 c κs = rw (c .before .loop .inv .0 .lists .even) (c .loop-test .taken)
@@ -71,16 +71,16 @@ entry-at-requires-4 c κs = omega (arith, c .before .before .before .before .loo
 loop-less : tie.Need-loop-less Inv-loop μ-loop
 loop-less c =
     let at = c .before .before .before .before in
-    let later = entry-rises (at .before .loop .inv .0 .lists .listed) (at .loop-test .taken) (c .number-at4 .ensures) in
+    let later = entry-rises (at .before .loop .inv .0 .lists .listed) (at .loop-test .taken) (c .entry-at4 .ensures) in
     omega (arith, later, at .loop-test .taken)
 
 loop-again : tie.Need-loop-again Inv-loop μ-loop
 loop-again c =
     let at = c .before .before .before .before in
     let inv = at .before .loop .inv in
-    reach-turns (inv .0) (inv .1) (at .loop-test .taken) (c .before .before .before .number-at3 .ensures)
+    reach-turns (inv .0) (inv .1) (at .loop-test .taken) (c .before .before .before .entry-at3 .ensures)
     (⊎-map (λ w. (w .0 .taken, w .1, w .2, w .3)) (λ w. (w .0 .left, w .1, w .2, w .3)) (c .before .if1 .came))
-    (c .number-at4 .ensures)
+    (c .entry-at4 .ensures)
 
 returns : tie.Need-returns Inv-loop μ-loop
 returns c = reach-ends (c .before .loop .inv .0) (c .before .loop .inv .1) (c .loop-test .left)

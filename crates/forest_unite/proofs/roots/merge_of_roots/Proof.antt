@@ -24,7 +24,7 @@ returns-2 c =
 returns-3 : tie.Need-returns-3
 returns-3 c =
     simp
-    (c .hang-under2 .ensures, ne-eqb _ _ (c .before .before .before .if1 .left), sym (c .before .before .goes-under .ensures) ∙ c .before .if2 .left)
+    (c .merge-under2 .ensures, ne-eqb _ _ (c .before .before .before .if1 .left), sym (c .before .before .goes-under .ensures) ∙ c .before .if2 .left)
 
 pub merge-of-roots-spec : {M : Type 1} → statement M
 merge-of-roots-spec =
