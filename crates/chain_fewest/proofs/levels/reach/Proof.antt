@@ -30,7 +30,7 @@ head-facts c =
     head-waits given (c .entry-at .ensures)
 
 -- the cell across the link, and room for it
-across-facts : (c : tie.After-entry-at3 Inv-loop μ-loop) → c .entry-at3 .result < length (c .before .before .loop .left)
+across-facts : (c : tie.After-entry-at3 Inv-loop μ-loop) → c .entry-at3 .result < length (c .before .before .loop .remaining)
 across-facts c =
     let inv = c .before .before .loop .inv in
     reach-inside (inv .0) (inv .1) (c .before .loop-test .taken) (c .entry-at3 .ensures)

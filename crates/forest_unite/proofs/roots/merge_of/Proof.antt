@@ -1,6 +1,6 @@
 -- `uniting::roots::hang` meets its contract: the two walks give the roots.
-use Rattle.forest_unite.proofs.roots.merge-of.Statement.{statement}
-use Rattle.forest_unite.proofs.roots.merge-of.Tie as tie
+use Rattle.forest_unite.proofs.roots.merge_of.Statement.{statement}
+use Rattle.forest_unite.proofs.roots.merge_of.Tie as tie
 
 root-requires : tie.Need-root-requires
 root-requires c κs = tt
