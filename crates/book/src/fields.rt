@@ -101,7 +101,7 @@ fn store(
     log[at] = one;
     log[at + 1] = other;
     counts[spot] = count + 1;
-    let h = forest_unite::roots::hang(forward_parent, forward_size, 10, one, other);
+    let h = forest_unite::roots::merge_of(forward_parent, forward_size, 10, one, other);
     forest_unite::merge_parents(forward_parent, h);
     forest_unite::merge_sizes(forward_size, h);
 }

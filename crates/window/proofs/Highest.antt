@@ -76,7 +76,7 @@ module _ (xs : List Labelled) (a b : ℕ) where
 
   -- where links from no label above m on chain the two, the highest is not above m
   pub highest-below : (j m : ℕ) → ((i : ℕ) → m < i → Chained (linksFromLabel i xs) a b → ⊥) → highest j xs a b ≤ m
-  highest-below j m different = elim (decLe (highest j xs a b) m) [
+  highest-below j m apart = elim (decLe (highest j xs a b) m) [
     | yes h ↦ h
     | no h ↦ absurd (apart (highest j xs a b) (omega arith) (highest-chained j _ (omega arith) (le-refl _)))
   ]
@@ -102,7 +102,7 @@ module _ (b : Book) (log : List ℕ) (one other : ℕ) where
 
   -- at most n for different cells, since no link has the label n + 1
   pub window-apart : (one ≡ other → ⊥) → label ≤ b .clock .n
-  window-apart different = ⊎-elim (λ e. absurd (apart (alone e))) (λ l. omega arith) (eq-or-lt-of-le (highest-most (windowLinks b log) one other top))
+  window-apart apart = ⊎-elim (λ e. absurd (apart (alone e))) (λ l. omega arith) (eq-or-lt-of-le (highest-most (windowLinks b log) one other top))
     where
       no-link : {a c : ℕ} → Linked a c [] → ⊥
       no-link = elim [ ]

@@ -80,10 +80,10 @@ module _ (b : Book) (log : List ℕ) where
   window-falls = falls-higher (omega arith) (falls-from 0 (windowSlides b))
 
   -- all have a label of 1 or more, and none one above n
-  pub window-all : window.linksAt 1 (windowLinks b log) ≡ map (λ x. x .link) (windowLinks b log)
+  pub window-all : window.linksFromLabel 1 (windowLinks b log) ≡ map (λ x. x .link) (windowLinks b log)
   window-all = ap (map (λ x. x .link)) (all-at-least 1 (each-map (λ x p. p .0) window-labels))
 
-  pub window-none : window.linksAt (suc (b .clock .n)) (windowLinks b log) ≡ []
+  pub window-none : window.linksFromLabel (suc (b .clock .n)) (windowLinks b log) ≡ []
   window-none = ap (map (λ x. x .link)) (falls-none window-falls (suc (b .clock .n)) (omega arith))
 
   few-from : ((spot : ℕ) → getD (b .counts) spot 0 ≤ 256) → (age more : ℕ) → length (linksFromAge b log age more) ≤ more * 256

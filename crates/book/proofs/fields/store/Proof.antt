@@ -92,7 +92,7 @@ returns : tie.Need-returns
 unfolding linkStored
 returns c mounting backwardParent backwardSize backwardLabel =
     let spot = spot-is (c .before .before .before .before .before .before .before .before .before .before) in
-    rw (c .merge-sizes .ensures, c .before .before .merge-parents .ensures, c .before .before .before .before .hang .ensures, spot)
+    rw (c .merge-sizes .ensures, c .before .before .merge-parents .ensures, c .before .before .before .before .merge-of .ensures, spot)
 
 pub store-spec : {M : Type 1} → statement M
 store-spec =
