@@ -4,5 +4,5 @@ pub mod GroupTrees
 pub mod Labels
 pub mod LeastHold
 pub mod Tally
-pub mod HasHistory
+pub mod AtRoots
 pub mod WindowTrees

@@ -22,7 +22,7 @@ use Rattle.window_groups.specs.Groups.{smallest, groupOf, leastHold, gro
 use Rattle.window_groups.specs.Trees.{windowArrays, windowForestOf, treeOf, leastLabel, groupsAt}
 use Rattle.window_groups.proofs.Cells.{of-cells-agree}
 use Rattle.window_groups.proofs.GroupTrees.{Ordered, group-is-tree, tree-hold}
-use Rattle.window_groups.proofs.HasHistory.{Grown, HasHistory, first-at, count-at, least-at}
+use Rattle.window_groups.proofs.AtRoots.{Grown, AtRoots, first-at, count-at, least-at}
 
 module _ (b : Book) (log : List ℕ) where
   abbrev united : List Labelled
@@ -81,7 +81,7 @@ module _ (b : Book) (log : List ℕ) where
         ap₂ (λ p l. leastLabel (b .clock .n + 1) p l (tree p c) - 1) parents-are labels-are
         ∙ sym (ap (leastHold (b .clock .n) (windowLinks b log)) (group-is-tree ordered c) ∙ tree-hold ordered _)
 
-    pub forest-groups : {roots : List ℕ} {t : Tallies} → HasHistory (b .clock .n) (f .parent) (f .label) roots t
+    pub forest-groups : {roots : List ℕ} {t : Tallies} → AtRoots (b .clock .n) (f .parent) (f .label) roots t
         → groupsAt roots t (f .count) ≡ groupsOf b log
     unfolding groupsAt groupsOf windowForestOf
     forest-groups told = λ i.

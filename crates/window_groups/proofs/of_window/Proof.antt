@@ -2,7 +2,7 @@
 use mathlib.Core.Path.{_∙_}
 use borrow.Author.Needs.{needs}
 use Rattle.window_groups.specs.Trees.{Roots}
-use Rattle.window_groups.proofs.HasHistory.{Grown, HasHistory, roots-below, least-positive}
+use Rattle.window_groups.proofs.AtRoots.{Grown, AtRoots, roots-below, least-positive}
 use Rattle.window_groups.proofs.WindowTrees.{forest-grown, forest-groups}
 use Rattle.window_groups.proofs.of_window.Statement.{statement}
 use Rattle.window_groups.proofs.of_window.Tie as tie
@@ -32,7 +32,7 @@ tally-requires c κs =
 told : (c : tie.After-tally)
     → (let roots = c .before .before .before .before .before .before in
     let forest = roots .before .before .before .before .window-forest .result in
-    HasHistory (roots .before .before .before .before .before .before .args .book .clock .n) (forest .parent) (forest .label) (roots .roots .result) (c .tally .result))
+    AtRoots (roots .before .before .before .before .before .before .args .book .clock .n) (forest .parent) (forest .label) (roots .roots .result) (c .tally .result))
 told c =
     let roots = c .before .before .before .before .before .before in
     record { grown = grown (roots .before .before .before .before); roots-are = roots .roots .ensures; tallies-are = c .tally .ensures }

@@ -25,7 +25,7 @@ pub record Grown (ps ls : List ℕ) : Type 0 where
   pub from-one : (c : ℕ) → ¬ (parentIn ps c ≡ c) → 1 ≤ labelIn ls c
 
 -- what the passes gave
-pub record HasHistory (n : ℕ) (ps ls roots : List ℕ) (t : Tallies) : Type 0 where
+pub record AtRoots (n : ℕ) (ps ls roots : List ℕ) (t : Tallies) : Type 0 where
   pub grown : Grown ps ls
   pub roots-are : roots ≡ rootsOf ps stepLimit cells
   pub tallies-are : t ≡ talliesOf roots ps ls (n + 1)
@@ -44,7 +44,7 @@ module _ {ps ls : List ℕ} (g : Grown ps ls) where
     | no h ↦ rw (List·getD-eq-default roots 0 {n = c} (omega (arith, ap length e, length-each root cells))) (omega arith)
   ]
 
-module _ {n : ℕ} {ps ls roots : List ℕ} {t : Tallies} (told : HasHistory n ps ls roots t) {c : ℕ} (h : c < cells) where
+module _ {n : ℕ} {ps ls roots : List ℕ} {t : Tallies} (told : AtRoots n ps ls roots t) {c : ℕ} (h : c < cells) where
   abbrev rootOf : ℕ → ℕ
   rootOf d = climb (parentIn ps) stepLimit d .root
 
