@@ -59,10 +59,10 @@ module _ {h : History} {s : State} (agrees : Agrees h s) where
 
   -- ---- yes
 
-  forward-chain : (x y : ℕ) → Chained (calls.forwardStepCount 0 (s .book .«forward_parent»)) x y ↔ Chained (forwardPart h) x y
+  forward-chain : (x y : ℕ) → Chained (calls.parentSteps 0 (s .book .«forward_parent»)) x y ↔ Chained (forwardPart h) x y
   forward-chain =
       forest-chain (le-refl stepLimit) (forward-ends (agrees .sensible))
-      (subst (λ up. Steps up 0 (calls.forwardStepCount 0 (s .book .«forward_parent»))) (agrees .forward-parents) (forward-steps (s .book .«forward_parent»)))
+      (subst (λ up. Steps up 0 (calls.parentSteps 0 (s .book .«forward_parent»))) (agrees .forward-parents) (forward-steps (s .book .«forward_parent»)))
 
   -- at the cut the backward lists hold the forest of the links that the cut leaves
   backward-up : parentAtIn (s .book .«backward_parent») (s .book .«backward_label») (cutOf (s .book)) ≡ forestOf stepLimit (atLeast (cutIn h) (backwardLinks h)) .parent
@@ -70,10 +70,10 @@ module _ {h : History} {s : State} (agrees : Agrees h s) where
       ap₂ parentAt (agrees .backward) cut-is ∙ cut-is-forest (le-refl stepLimit) (backward-ends (agrees .sensible)) (backward-falls (agrees .sensible)) (cutIn h)
 
   backward-chain : (x y : ℕ) →
-      Chained (calls.backwardStepCount (cutOf (s .book)) 0 (s .book .«backward_parent») (s .book .«backward_label»)) x y ↔ Chained (backwardPart h) x y
+      Chained (calls.parentStepsAt (cutOf (s .book)) 0 (s .book .«backward_parent») (s .book .«backward_label»)) x y ↔ Chained (backwardPart h) x y
   backward-chain =
       forest-chain (le-refl stepLimit) (each-at-least (cutIn h) (backward-ends (agrees .sensible)))
-      (subst (λ up. Steps up 0 (calls.backwardStepCount (cutOf (s .book)) 0 (s .book .«backward_parent») (s .book .«backward_label»))) backward-up
+      (subst (λ up. Steps up 0 (calls.parentStepsAt (cutOf (s .book)) 0 (s .book .«backward_parent») (s .book .«backward_label»))) backward-up
       (backward-steps (cutOf (s .book)) _ _ (omega arith)))
 
   -- the steps chain exactly what the window's links chain
