@@ -13,9 +13,11 @@ use Rattle.slides.specs.Clock.{notBefore, slideOf, placeOf}
 use Rattle.slides.proofs.Slides.{moved-n, moved-place, moved-slide, place-below}
 use Rattle.book_state.specs.declared.Book.{Book}
 use Rattle.book_state.specs.Log.{Readable, stored}
-use Rattle.book_state.specs.Numbers.{has, logPlaces, areCells}
+use Rattle.numbers.specs.Checks.{has}
+use Rattle.book_state.specs.Numbers.{logPlaces, areCells}
 use Rattle.book_state.specs.Order.{inOrder, neverOpened}
-use Rattle.book_state.proofs.Checks.{first-passed, fails, unless-passed, has-length, readable, never-in-order}
+use Rattle.numbers.proofs.Checks.{first-passed, fails, unless-passed, has-length}
+use Rattle.book_state.proofs.Checks.{readable, never-in-order}
 use Rattle.book_time.specs.Time.{movedBook}
 use Rattle.book_time.proofs.Moves.{chunkAfter, spotThen, moved-clock, moved-count}
 use Rattle.book.specs.Calls.{Outcome, Gives, Room, openSpot, openingNumber, linkNumber, clockNumber}

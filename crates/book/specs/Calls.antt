@@ -1,4 +1,4 @@
--- What opening, link and clock give, for every book, log and argument (document 01, "Numbers a call can give"). Each call is
+-- What opening, link and clock give, for every book, log and argument (RULES 7). Each call is
 -- one total number, the first check that fails in the order of the table; its effects follow where that is 0, and a refusal
 -- changes nothing.
 use Prim.Native.Nat.{ℕ, zero, suc, _+_, _≤_, _<_}
@@ -7,6 +7,7 @@ use mathlib.Core.Bool.{Bool}
 use mathlib.Core.List.{List, [], _∷_, _++_}
 use lib.Dec.{ltb}
 use lib.ListN.{length, getD, set, drop, replicate}
+use Rattle.numbers.specs.Kinds.{Cell, Counts, Labels, Log, Number, Parents, Sizes, Tick}
 use Rattle.settings.specs.Settings.{takenNumber}
 use Rattle.settings.specs.declared.Settings.{Settings}
 use Rattle.cells.specs.Cell.{lorryCell}
@@ -16,7 +17,8 @@ use Rattle.forest_unite.specs.United.{mergeOf, mergedParents, mergedSizes}
 use Rattle.forest_unite.specs.declared.Merge.{Merge}
 use Rattle.book_state.specs.declared.Book.{Book}
 use Rattle.book_state.specs.Arrays.{stepLimit}
-use Rattle.book_state.specs.Numbers.{firstOf, unless, has, logPlaces, areCells}
+use Rattle.numbers.specs.Checks.{firstOf, unless, has}
+use Rattle.book_state.specs.Numbers.{logPlaces, areCells}
 use Rattle.book_state.specs.Log.{halfOf, spotOf, startOf, stored}
 use Rattle.book_state.specs.Order.{bookOf, inOrder}
 use Rattle.book_time.specs.Time.{emptied, movedBook}
@@ -35,27 +37,27 @@ pub record Gives (o : Outcome) (answer : Answer) (log : List ℕ) : Type 0 where
   pub logged : log ≡ o .log
 
 -- the same of an answer and the fields of a book that were lent
-abbrev pub GivesFields : Outcome → FieldsAnswer → List ℕ → List ℕ → List ℕ → List ℕ → List ℕ → List ℕ → List ℕ → Type 0
+abbrev pub GivesFields : (outcome : Outcome) (answer : FieldsAnswer) (counts : Counts) (forwardParent : Parents) (forwardSize : Sizes) (backwardParent : Parents) (backwardSize : Sizes) (backwardLabel : Labels) (log : Log) → Type 0
 GivesFields o answer counts forwardParent forwardSize backwardParent backwardSize backwardLabel log =
     Gives o (record { book = bookOf (answer .clock) (answer .mounting) counts forwardParent forwardSize backwardParent backwardSize backwardLabel; number = answer .number }) log
 
 -- ---- opening: 2, 6
 
-unfoldable pub openingNumber : Settings → List ℕ → ℕ
+unfoldable pub openingNumber : (settings : Settings) (log : Log) → Number
 openingNumber s log = firstOf (takenNumber s ∷ unless (has logPlaces log) 6 ∷ [])
 
-unfoldable pub openingByNumber : ℕ → Book → List ℕ → Settings → Outcome
+unfoldable pub openingByNumber : (number : Number) (book : Book) (log : Log) (settings : Settings) → Outcome
 openingByNumber zero b log s =
     record { book = emptied (started s) (s .mounting); log = replicate logPlaces 0 ++ drop logPlaces log; number = 0 }
 openingByNumber (suc k) b log s = record { book = b; log = log; number = suc k }
 
-unfoldable pub openingOf : Book → List ℕ → Settings → Outcome
+unfoldable pub openingOf : (book : Book) (log : Log) (settings : Settings) → Outcome
 openingOf b log s = openingByNumber (openingNumber s log) b log s
 
 -- ---- link: 1, 6, 3, 4, 5
 
 -- for a book in order or not, with this clock, that holds so many links in the link's slide
-abbrev pub linkNumberIn : Bool → Clock → ℕ → List ℕ → ℕ → ℕ → ℕ → ℕ
+abbrev pub linkNumberIn : (ordered : Bool) (clock : Clock) (held : ℕ) (log : Log) (tick : Tick) (one other : Cell) → Number
 linkNumberIn ordered clock held log tick one other =
     firstOf
     (unless ordered 1
@@ -65,7 +67,7 @@ linkNumberIn ordered clock held log tick one other =
     ∷ unless (ltb held 256) 5
     ∷ [])
 
-unfoldable pub linkNumber : Book → List ℕ → ℕ → ℕ → ℕ → ℕ
+unfoldable pub linkNumber : (book : Book) (log : Log) (tick : Tick) (one other : Cell) → Number
 linkNumber b log tick one other = linkNumberIn (inOrder b) (b .clock) (stored b (slideOf (b .clock) tick)) log tick one other
 
 -- the spot of the open slide
@@ -79,7 +81,7 @@ pub record Room (clock : Clock) (counts log : List ℕ) : Type 0 where
   pub long : startOf 32 ≤ length log
 
 -- a link of two of the lorry's cells stored in the open slide
-unfoldable pub linkStored : Book → List ℕ → ℕ → ℕ → Outcome
+unfoldable pub linkStored : (book : Book) (log : Log) (one other : Cell) → Outcome
 linkStored b log one other =
     let spot : ℕ = openSpot (b .clock) in
     let count : ℕ = getD (b .counts) spot 0 in
@@ -102,26 +104,26 @@ linkStored b log one other =
     }
 
 -- the time moves first; links arrive in the unit's numbers and are stored in the lorry's
-unfoldable pub linkByNumber : ℕ → Book → List ℕ → ℕ → ℕ → ℕ → Outcome
+unfoldable pub linkByNumber : (number : Number) (book : Book) (log : Log) (tick : Tick) (one other : Cell) → Outcome
 linkByNumber zero b log tick one other =
     linkStored (movedBook b log tick) log (lorryCell (b .mounting) one) (lorryCell (b .mounting) other)
 linkByNumber (suc k) b log tick one other = record { book = b; log = log; number = suc k }
 
-unfoldable pub linkOf : Book → List ℕ → ℕ → ℕ → ℕ → Outcome
+unfoldable pub linkOf : (book : Book) (log : Log) (tick : Tick) (one other : Cell) → Outcome
 linkOf b log tick one other = linkByNumber (linkNumber b log tick one other) b log tick one other
 
 -- ---- clock: 1, 6, 4
 
-abbrev pub clockNumberIn : Bool → Clock → List ℕ → ℕ → ℕ
+abbrev pub clockNumberIn : (ordered : Bool) (clock : Clock) (log : Log) (tick : Tick) → Number
 clockNumberIn ordered clock log tick =
     firstOf (unless ordered 1 ∷ unless (has logPlaces log) 6 ∷ unless (notBefore clock tick) 4 ∷ [])
 
-unfoldable pub clockNumber : Book → List ℕ → ℕ → ℕ
+unfoldable pub clockNumber : (book : Book) (log : Log) (tick : Tick) → Number
 clockNumber b log tick = clockNumberIn (inOrder b) (b .clock) log tick
 
-unfoldable pub clockByNumber : ℕ → Book → List ℕ → ℕ → Outcome
+unfoldable pub clockByNumber : (number : Number) (book : Book) (log : Log) (tick : Tick) → Outcome
 clockByNumber zero b log tick = record { book = movedBook b log tick; log = log; number = 0 }
 clockByNumber (suc k) b log tick = record { book = b; log = log; number = suc k }
 
-unfoldable pub clockOf : Book → List ℕ → ℕ → Outcome
+unfoldable pub clockOf : (book : Book) (log : Log) (tick : Tick) → Outcome
 clockOf b log tick = clockByNumber (clockNumber b log tick) b log tick

@@ -1,8 +1,8 @@
 // Opening, link and clock over the fields of a book, each lent where it stands: no copy of the book is made.
 use super::numbers;
-use settings::Settings;
 use book_state::order;
 use book_state::spots;
+use settings::Settings;
 ghost use mathlib.Core.Path.{_≡_};
 ghost use mathlib.Core.List.{List};
 ghost use Prim.Native.Nat.{ℕ};

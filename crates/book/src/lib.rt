@@ -3,8 +3,8 @@
 pub mod fields; // fields.rt: the same over the fields of a book, each lent where it stands
 mod numbers; // numbers.rt: the number of each call, the first check that fails
 
-use settings::Settings;
 use book_state::Book;
+use settings::Settings;
 ghost use Rattle.book.specs.Calls.{Gives, openingOf, linkOf, clockOf};
 
 // What opening, link and clock give: the book, and the number of the table.

@@ -1,4 +1,4 @@
-// The number of each call: the first check that fails, in the order of document 01's table, or 0.
+// The number of each call: the first check that fails, in the order of the table (RULES 7), or 0.
 use settings::Settings;
 use slides::Clock;
 ghost use mathlib.Core.Path.{_≡_};

@@ -1,8 +1,8 @@
 // The joined call: four walks, always all four; and where neither forest alone decides, the crossing.
-use forest::walks;
-use slides::Clock;
 use book_state::Book;
 use book_state::order;
+use forest::walks;
+use slides::Clock;
 ghost use mathlib.Core.Path.{_≡_};
 ghost use mathlib.Core.Bool.{false, cond, not, _&&_};
 ghost use Prim.Native.Nat.{_+_, _<_};

@@ -17,46 +17,9 @@ use Rattle.forest_check.proofs.Every.{every-each, within-high}
 use Rattle.book_state.specs.declared.Book.{Book}
 use Rattle.book_state.specs.Arrays.{cells, stepLimit}
 use Rattle.book_state.specs.Log.{Readable}
-use Rattle.book_state.specs.Numbers.{firstOf, unless, has, logPlaces, areCells}
+use Rattle.numbers.specs.Checks.{firstOf, unless, has}
+use Rattle.book_state.specs.Numbers.{logPlaces, areCells}
 use Rattle.book_state.specs.Order.{inOrderOf, inOrder, neverOpened}
-
--- ---- the first number that is not 0
-
-pub first-passed : (k : ℕ) (ks : List ℕ) → firstOf (k ∷ ks) ≡ 0 → (k ≡ 0) × (firstOf ks ≡ 0)
-unfolding firstOf
-first-passed zero ks e = (refl, e)
-first-passed (suc k) ks e = absurd (omega arith)
-
-pub first-found : (k : ℕ) (ks : List ℕ) → (k ≡ 0 → ⊥) → firstOf (k ∷ ks) ≡ k
-unfolding firstOf
-first-found zero ks found = absurd (found refl)
-first-found (suc k) ks found = refl
-
-pub first-next : (k : ℕ) (ks : List ℕ) → k ≡ 0 → firstOf (k ∷ ks) ≡ firstOf ks
-unfolding firstOf
-first-next zero ks e = refl
-first-next (suc k) ks e = absurd (omega arith)
-
--- a check that is passed is no number, and one that fails is the number
-pub passes : {t : Bool} (k : ℕ) (ks : List ℕ) → t ≡ true → firstOf (unless t k ∷ ks) ≡ firstOf ks
-unfolding firstOf
-passes k ks e = rw e
-
-pub fails : {t : Bool} (k : ℕ) (ks : List ℕ) → t ≡ false → firstOf (unless t (suc k) ∷ ks) ≡ suc k
-unfolding firstOf
-fails k ks e = rw e
-
-pub last-passes : {t : Bool} (k : ℕ) → t ≡ true → firstOf (unless t k ∷ []) ≡ 0
-unfolding firstOf
-last-passes k e = rw e
-
-pub unless-passed : (t : Bool) (k : ℕ) → unless t (suc k) ≡ 0 → t ≡ true
-unless-passed true k e = refl
-unless-passed false k e = absurd (omega arith)
-
-pub unless-failed : (t : Bool) (k : ℕ) → (unless t k ≡ 0 → ⊥) → t ≡ false
-unless-failed true k failed = absurd (failed refl)
-unless-failed false k failed = refl
 
 -- ---- both are cells
 
@@ -68,14 +31,6 @@ first-no-cell other p = simp (le-ltb _ _ p)
 
 pub second-no-cell : {one other : ℕ} → one < cells → cells ≤ other → areCells one other ≡ false
 second-no-cell p q = simp (lt-ltb _ _ p, le-ltb _ _ q)
-
--- ---- so many places
-
-pub has-length : (n : ℕ) (l : List ℕ) → has n l ≡ leb n (length l)
-unfolding has
-has-length zero l = sym (leb·zero (length l))
-has-length (suc n) [] = sym (leb·suc-zero n)
-has-length (suc n) (x ∷ l) = has-length n l ∙ sym (leb·suc-suc n (length l))
 
 -- ---- a book in order
 

@@ -1,7 +1,7 @@
--- A labelled forest in three lists, and links united into it one after the other (document 01, "Chunks and the two
--- forests"). With 1,024 cells a walk takes at most 10 steps.
+-- A labelled forest in three lists, and links united into it one after the other (RULES 3). With 1,024 cells a walk takes at most 10 steps.
 use Prim.Native.Nat.{ℕ}
 use mathlib.Core.List.{List, [], _∷_}
+use Rattle.numbers.specs.Kinds.{Label, Labels, Parents, Sizes}
 use Rattle.graph.specs.Forest.{Labelled}
 use Rattle.forest.specs.Arrays.{freshParents, freshSizes, freshLabels}
 use Rattle.forest_unite.specs.United.{mergeOf, mergedParents, mergedSizes, mergedLabels}
@@ -19,14 +19,14 @@ pub record Arrays : Type 0 where
   pub sizes : List ℕ
   pub labels : List ℕ
 
-abbrev pub arraysOf : List ℕ → List ℕ → List ℕ → Arrays
+abbrev pub arraysOf : (parents : Parents) (sizes : Sizes) (labels : Labels) → Arrays
 arraysOf parents sizes labels = record { parents = parents; sizes = sizes; labels = labels }
 
 -- each cell its own root, of size 1
 abbrev pub freshArrays : Arrays
 freshArrays = record { parents = freshParents cells; sizes = freshSizes cells; labels = freshLabels cells }
 
-abbrev pub mergedArrays : Arrays → ℕ → Merge → Arrays
+abbrev pub mergedArrays : (arrays : Arrays) (label : Label) (merge : Merge) → Arrays
 mergedArrays a label h = record { parents = mergedParents (a .parents) h; sizes = mergedSizes (a .sizes) h; labels = mergedLabels (a .labels) h label }
 
 -- one link more

@@ -1,10 +1,11 @@
--- Where links stand in the log, and which links a place and a chunk hold (document 01, "Numbers a call can give", on the
+-- Where links stand in the log, and which links a place and a chunk hold (RULES 7, on the
 -- log; docs/BOOK.md, the log).
 use Prim.Native.Nat.{ℕ, zero, suc, _+_, _*_, _%_, _≤_}
 use mathlib.Core.Bool.{cond, _&&_}
 use mathlib.Core.List.{List, [], _∷_, _++_, map}
 use lib.Dec.{eqb, ltb}
 use lib.ListN.{length, getD}
+use Rattle.numbers.specs.Kinds.{Counts, Log, Place, Slide}
 use Rattle.graph.specs.Link.{Link}
 use Rattle.graph.specs.Forest.{Labelled}
 use Rattle.slides.specs.Clock.{openSlide, chunkOf, placeOf}
@@ -17,7 +18,7 @@ abbrev pub halfOf : ℕ → ℕ
 halfOf chunk = chunk % 2
 
 -- the spot of a place in the counts and in the log
-abbrev pub spotOf : ℕ → ℕ → ℕ
+abbrev pub spotOf : (half : ℕ) (place : Place) → ℕ
 spotOf half place = half * 16 + place
 
 -- the log place of a spot's first link
@@ -29,24 +30,24 @@ abbrev pub keep : Link → List Link → List Link
 keep l ls = cond (ltb (l .one) cells && ltb (l .other) cells) (l ∷ ls) ls
 
 -- the two entries at a log place
-abbrev pub pairAt : List ℕ → ℕ → Link
+abbrev pub pairAt : (log : Log) (at : ℕ) → Link
 pairAt log at = record { one = getD log at 0; other = getD log (at + 1) 0 }
 
 -- so many links from a log place on, in order of arrival
-unfoldable pub linksAt : List ℕ → ℕ → ℕ → List Link
+unfoldable pub linksAt : (log : Log) (at count : ℕ) → List Link
 linksAt log at zero = []
 linksAt log at (suc more) = keep (pairAt log at) (linksAt log (at + 2) more)
 
 -- the links of a place, in order of arrival
-abbrev pub placeLinks : List ℕ → List ℕ → ℕ → ℕ → List Link
+abbrev pub placeLinks : (counts : Counts) (log : Log) (half : ℕ) (place : Place) → List Link
 placeLinks counts log half place = linksAt log (startOf (spotOf half place)) (getD counts (spotOf half place) 0)
 
 -- a link with the place as its label
-abbrev pub labelled : ℕ → Link → Labelled
+abbrev pub labelled : (place : Place) (l : Link) → Labelled
 labelled place l = record { label = place; link = l }
 
 -- the links of so many places from a place on, in order of arrival, each with its place as label
-unfoldable pub chunkLinks : List ℕ → List ℕ → ℕ → ℕ → ℕ → List Labelled
+unfoldable pub chunkLinks : (counts : Counts) (log : Log) (half : ℕ) (place : Place) (count : ℕ) → List Labelled
 chunkLinks counts log half place zero = []
 chunkLinks counts log half place (suc more) =
     map (labelled place) (placeLinks counts log half place) ++ chunkLinks counts log half (suc place) more
@@ -60,10 +61,10 @@ pub record Readable (n : ℕ) (counts log : List ℕ) : Type 0 where
   pub long : startOf 32 ≤ length log
 
 -- how many links the slide holds already: none, unless it is of the open chunk
-abbrev pub storedIn : Clock → List ℕ → ℕ → ℕ
+abbrev pub storedIn : (clock : Clock) (counts : Counts) (slide : Slide) → ℕ
 storedIn clock counts slide =
     let chunk : ℕ = chunkOf clock slide in
     cond (eqb chunk (chunkOf clock (openSlide clock))) (getD counts (spotOf (halfOf chunk) (placeOf clock slide)) 0) 0
 
-unfoldable pub stored : Book → ℕ → ℕ
+unfoldable pub stored : (book : Book) (slide : Slide) → ℕ
 stored b slide = storedIn (b .clock) (b .counts) slide

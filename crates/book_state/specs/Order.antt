@@ -1,9 +1,10 @@
--- Number 1 (document 01, "Numbers a call can give"): whether a book's fields are in their ranges and its walks within 10
+-- Number 1 (RULES 7): whether a book's fields are in their ranges and its walks within 10
 -- steps. A book that was never opened is out of range: its n is 0.
 use Prim.Native.Nat.{ℕ}
 use mathlib.Core.Bool.{Bool, _&&_}
 use mathlib.Core.List.{List}
 use lib.ListN.{replicate}
+use Rattle.numbers.specs.Kinds.{Counts, Labels, Parents, Sizes}
 use Rattle.settings.specs.Settings.{heldInRange}
 use Rattle.slides.specs.Clock.{clockInRange}
 use Rattle.slides.specs.declared.Clock.{Clock}
@@ -12,7 +13,7 @@ use Rattle.book_state.specs.declared.Book.{Book}
 use Rattle.book_state.specs.Arrays.{cells, stepLimit}
 
 -- the book of these fields
-abbrev pub bookOf : Clock → ℕ → List ℕ → List ℕ → List ℕ → List ℕ → List ℕ → List ℕ → Book
+abbrev pub bookOf : (clock : Clock) (mounting : ℕ) (counts : Counts) (forwardParent : Parents) (forwardSize : Sizes) (backwardParent : Parents) (backwardSize : Sizes) (backwardLabel : Labels) → Book
 bookOf clock mounting counts forwardParent forwardSize backwardParent backwardSize backwardLabel =
     record {
       «forward_parent» = forwardParent;
@@ -26,7 +27,7 @@ bookOf clock mounting counts forwardParent forwardSize backwardParent backwardSi
     }
 
 -- the fields one by one: clock, mounting, counts, forward parents and sizes, backward parents, sizes and labels
-unfoldable pub inOrderOf : Clock → ℕ → List ℕ → List ℕ → List ℕ → List ℕ → List ℕ → List ℕ → Bool
+unfoldable pub inOrderOf : (clock : Clock) (mounting : ℕ) (counts : Counts) (forwardParent : Parents) (forwardSize : Sizes) (backwardParent : Parents) (backwardSize : Sizes) (backwardLabel : Labels) → Bool
 inOrderOf clock mounting counts forwardParent forwardSize backwardParent backwardSize backwardLabel =
     clockInRange clock
     && heldInRange (clock .n) (clock .b) mounting

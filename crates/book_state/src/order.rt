@@ -1,4 +1,4 @@
-// Number 1 of document 01, for a whole book: its fields are in their ranges, and no walk in either forest exceeds 10 steps.
+// Number 1 (RULES 7.8), for a whole book: its fields are in their ranges, and no walk in either forest exceeds 10 steps.
 use settings::Settings;
 use slides::Clock;
 ghost use mathlib.Core.Path.{_≡_};

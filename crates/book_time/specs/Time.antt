@@ -1,4 +1,4 @@
--- Time moves (document 01, "Time, slides, window" and "Chunks and the two forests"). Within a chunk nothing else changes. Into
+-- Time moves (RULES 2 and 3). Within a chunk nothing else changes. Into
 -- the next chunk: the backward forest is built from the chunk that ends, places n - 1 down to 1, in each place the last
 -- arrival first, and the forward forest starts fresh. Further: both forests are fresh and nothing is stored.
 use Prim.Native.Nat.{ℕ, _+_, _-_, _*_}
@@ -7,6 +7,7 @@ use mathlib.Core.Path.{_≡_}
 use mathlib.Core.List.{List, _++_}
 use lib.Dec.{eqb}
 use lib.ListN.{take, drop, replicate}
+use Rattle.numbers.specs.Kinds.{Counts, Log, Tick}
 use Rattle.slides.specs.Clock.{slideOf, openSlide, chunkOf, movedTo}
 use Rattle.slides.specs.declared.Clock.{Clock}
 use Rattle.book_state.specs.declared.Book.{Book}
@@ -14,11 +15,11 @@ use Rattle.book_state.specs.Arrays.{Arrays, freshArrays, unitedAll}
 use Rattle.book_state.specs.Log.{halfOf, chunkLinks}
 
 -- the counts with those of one half made 0
-unfoldable pub cleared : ℕ → List ℕ → List ℕ
+unfoldable pub cleared : (half : ℕ) (counts : Counts) → Counts
 cleared half counts = take (half * 16) counts ++ (replicate 16 0 ++ drop (half * 16 + 16) counts)
 
 -- a book with this clock and mounting and nothing stored
-unfoldable pub emptied : Clock → ℕ → Book
+unfoldable pub emptied : (clock : Clock) (mounting : ℕ) → Book
 emptied clock mounting =
     record {
       «forward_parent» = freshArrays .parents;
@@ -54,12 +55,12 @@ stayed b clock =
     }
 
 -- the backward forest of the chunk that ends; place 0 is never scanned
-unfoldable pub backwardOf : Book → List ℕ → Arrays
+unfoldable pub backwardOf : (book : Book) (log : Log) → Arrays
 backwardOf b log =
     unitedAll freshArrays (chunkLinks (b .counts) log (halfOf (chunkOf (b .clock) (openSlide (b .clock)))) 1 (b .clock .n - 1))
 
 -- the book as the next chunk begins
-unfoldable pub turned : Book → List ℕ → Clock → Book
+unfoldable pub turned : (book : Book) (log : Log) (clock : Clock) → Book
 turned b log clock =
     let back : Arrays = backwardOf b log in
     record {
@@ -74,13 +75,13 @@ turned b log clock =
     }
 
 -- by whether the chunk is the same, and whether it is the next
-unfoldable pub movedByChunk : Bool → Bool → Book → List ℕ → Clock → Book
+unfoldable pub movedByChunk : (same next : Bool) (book : Book) (log : Log) (clock : Clock) → Book
 movedByChunk true next b log clock = stayed b clock
 movedByChunk false true b log clock = turned b log clock
 movedByChunk false false b log clock = emptied clock (b .mounting)
 
 -- the book when its time has moved to the tick
-unfoldable pub movedBook : Book → List ℕ → ℕ → Book
+unfoldable pub movedBook : (book : Book) (log : Log) (tick : Tick) → Book
 movedBook b log tick =
     let before : ℕ = chunkOf (b .clock) (openSlide (b .clock)) in
     let after : ℕ = chunkOf (b .clock) (slideOf (b .clock) tick) in

@@ -1,7 +1,7 @@
 // The step of time: within a chunk nothing else changes; into the next chunk the backward forest is built from the chunk
 // that ends; further, nothing is left.
-use slides::Clock;
 use book_state::spots;
+use slides::Clock;
 ghost use mathlib.Core.Path.{_≡_};
 ghost use mathlib.Core.List.{map, []};
 ghost use Prim.Native.Nat.{ℕ, _+_, _-_, _*_, _≤_, _<_};

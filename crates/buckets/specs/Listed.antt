@@ -13,7 +13,7 @@ pub record FirstFrom (keys : List ℕ) (key start entry : ℕ) : Type 0 where
   pub noneBefore : (i : ℕ) → start ≤ i → i < entry → getD keys i 0 ≡ key → ⊥
 
 -- each key is below the bound
-abbrev pub AllBelow : ℕ → List ℕ → Type 0
+abbrev pub AllBelow : (bound : ℕ) (keys : List ℕ) → Type 0
 AllBelow bound keys = (i : ℕ) → i < length keys → getD keys i 0 < bound
 
 -- the lists of all keys below the bound, of the entries from `start` on

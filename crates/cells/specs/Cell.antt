@@ -1,13 +1,14 @@
--- Cells and mounting (document 01): rings of sectors, and the lorry's number of a unit's cell.
+-- Cells and mounting (RULES 1): rings of sectors, and the lorry's number of a unit's cell.
 --
 -- The mirror rule is `mirrorSector`, and nothing else says it. It and `mirrorOver` are shut: only the modules below this one
 -- open them. Everyone else goes by the laws (Cell/Laws), which hold of any rule that keeps to the sectors and, taken twice,
--- changes nothing. All is said over the number of sectors of a ring; document 01's unit, of 64, comes last.
+-- changes nothing. All is said over the number of sectors of a ring; the unit of RULES 1.1, of 64, comes last.
 pub mod Laws
 pub mod Table
 use Prim.Native.Nat.{ℕ, _+_, _*_, _-_, _/_, _%_}
 use mathlib.Core.Bool.{cond}
 use lib.Dec.{eqb, ltb}
+use Rattle.numbers.specs.Kinds.{Cell}
 
 -- there are 16 rings
 abbrev pub rings : ℕ
@@ -18,29 +19,29 @@ abbrev pub cellsOver : ℕ → ℕ
 cellsOver sectors = rings * sectors
 
 -- cell = 64 × ring + sector
-abbrev pub cellAt : ℕ → ℕ → ℕ → ℕ
+abbrev pub cellAt : (sectors ring sector : ℕ) → Cell
 cellAt sectors ring sector = sectors * ring + sector
 
 -- the ring of a cell
-abbrev pub ringOf : ℕ → ℕ → ℕ
+abbrev pub ringOf : (sectors : ℕ) (cell : Cell) → ℕ
 ringOf sectors c = c / sectors
 
 -- the sector of a cell
-abbrev pub sectorOf : ℕ → ℕ → ℕ
+abbrev pub sectorOf : (sectors : ℕ) (cell : Cell) → ℕ
 sectorOf sectors c = c % sectors
 
 -- on a mirrored unit sector s of the unit is sector 63 - s of the lorry
-pub mirrorSector : ℕ → ℕ → ℕ
+pub mirrorSector : (sectors s : ℕ) → ℕ
 mirrorSector sectors s = sectors - 1 - s
 
 -- in the same ring; a number that is no cell stays as it is
-pub mirrorOver : ℕ → ℕ → ℕ
+pub mirrorOver : (sectors : ℕ) (cell : Cell) → Cell
 unfolding mirrorSector
 mirrorOver sectors c =
     cond (ltb c (cellsOver sectors)) (cellAt sectors (ringOf sectors c) (mirrorSector sectors (sectorOf sectors c))) c
 
 -- the lorry's number of the unit's cell c: its mirror for mounting 2, and c itself for mounting 1 and any other number
-unfoldable pub lorryCellOver : ℕ → ℕ → ℕ → ℕ
+unfoldable pub lorryCellOver : (sectors mounting : ℕ) (cell : Cell) → Cell
 lorryCellOver sectors mounting c = cond (eqb mounting 2) (mirrorOver sectors c) c
 
 -- each ring has 64 sectors
@@ -54,5 +55,5 @@ cells = cellsOver sectors
 abbrev pub mirror : ℕ → ℕ
 mirror = mirrorOver sectors
 
-abbrev pub lorryCell : ℕ → ℕ → ℕ
+abbrev pub lorryCell : (mounting : ℕ) (cell : Cell) → Cell
 lorryCell = lorryCellOver sectors

@@ -1,4 +1,4 @@
-// The lorry's numbers of a unit's cells, by the way the unit is mounted (document 01, "Cells and mounting").
+// The lorry's numbers of a unit's cells, by the way the unit is mounted (RULES 1).
 mod table;
 
 use table::MIRROR;

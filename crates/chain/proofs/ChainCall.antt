@@ -20,8 +20,10 @@ use Rattle.slides.specs.Clock.{openSlide}
 use Rattle.book_state.specs.declared.Book.{Book}
 use Rattle.book_state.specs.Arrays.{cells}
 use Rattle.book_state.specs.Order.{inOrder}
-use Rattle.book_state.specs.Numbers.{firstOf, unless, has, logPlaces}
-use Rattle.book_state.proofs.Checks.{passes, fails, last-passes, both-cells, first-no-cell, second-no-cell, has-length, readable}
+use Rattle.numbers.specs.Checks.{firstOf, unless, has}
+use Rattle.book_state.specs.Numbers.{logPlaces}
+use Rattle.numbers.proofs.Checks.{passes, fails, last-passes, has-length}
+use Rattle.book_state.proofs.Checks.{both-cells, first-no-cell, second-no-cell, readable}
 use Rattle.window.specs.Window.{windowLinks, linksFromLabel, highest}
 use Rattle.window.specs.Gathered.{onesOf, othersOf, labelsOf, Put, linksIn}
 use Rattle.window.proofs.Gathered.{Fits, Fronts, window-fits, put-fronts, put-read}

@@ -1,4 +1,4 @@
--- The chain call (document 01, "Chain and hold"), for every book, log, pair of cells and chain buffer: order 1, 6, 3, 7, 8.
+-- The chain call (RULES 5), for every book, log, pair of cells and chain buffer: order 1, 6, 3, 7, 8.
 --
 -- The labels of window say it in one go. With j the largest label such that the links from it on chain the two, L is
 -- k + j - n and the hold is j - 1. A cell and itself are chained with no link at all, so j is then n + 1: L is k + 1 and the hold n.
@@ -8,12 +8,14 @@ use mathlib.Core.Bool.{true, _&&_}
 use mathlib.Core.List.{List, [], _∷_, _++_}
 use lib.Dec.{leb, ltb}
 use lib.ListN.{length, drop}
+use Rattle.numbers.specs.Kinds.{Cell, Label, Log, Number}
 use Rattle.graph.specs.Trail.{trailOf}
 use Rattle.slides.specs.Clock.{openSlide}
 use Rattle.book_state.specs.declared.Book.{Book}
 use Rattle.book_state.specs.Arrays.{cells}
 use Rattle.book_state.specs.Order.{inOrder}
-use Rattle.book_state.specs.Numbers.{firstOf, unless, has, logPlaces, areCells}
+use Rattle.numbers.specs.Checks.{firstOf, unless, has}
+use Rattle.book_state.specs.Numbers.{logPlaces, areCells}
 use Rattle.window.specs.Window.{windowLinks, linksFromLabel, highest}
 use Rattle.chain.specs.declared.ChainAnswer.{ChainAnswer}
 
@@ -22,14 +24,14 @@ abbrev pub chainPlaces : ℕ
 chainPlaces = 1024
 
 -- the largest label such that the window's links from it on chain the two; 0 where no links do
-abbrev pub labelOf : Book → List ℕ → ℕ → ℕ → ℕ
+abbrev pub labelOf : (book : Book) (log : Log) (one other : Cell) → Label
 labelOf b log one other = highest (suc (b .clock .n)) (windowLinks b log) one other
 
 -- the chain handed back
-abbrev pub chainCells : Book → List ℕ → ℕ → ℕ → List ℕ
+abbrev pub chainCells : (book : Book) (log : Log) (one other : Cell) → List Cell
 chainCells b log one other = trailOf (linksFromLabel (labelOf b log one other) (windowLinks b log)) one other
 
-unfoldable pub chainNumber : Book → List ℕ → List ℕ → ℕ → ℕ → ℕ
+unfoldable pub chainNumber : (book : Book) (log : Log) (chain : List Cell) (one other : Cell) → Number
 chainNumber b log chain one other =
     firstOf
     (unless (inOrder b) 1
@@ -45,7 +47,7 @@ pub record ChainOutcome : Type 0 where
   pub chain : List ℕ
 
 -- by the number; the chain is written to the front of the buffer, and later places keep what they had
-unfoldable pub chainByNumber : ℕ → Book → List ℕ → List ℕ → ℕ → ℕ → ChainOutcome
+unfoldable pub chainByNumber : (number : Number) (book : Book) (log : Log) (chain : List Cell) (one other : Cell) → ChainOutcome
 chainByNumber zero b log chain one other =
     let j : ℕ = labelOf b log one other in
     let cs : List ℕ = chainCells b log one other in
@@ -56,7 +58,7 @@ chainByNumber zero b log chain one other =
 chainByNumber (suc k) b log chain one other =
     record { answer = record { newest = 0; cells = 0; hold = 0; number = suc k }; chain = chain }
 
-unfoldable pub chainOf : Book → List ℕ → List ℕ → ℕ → ℕ → ChainOutcome
+unfoldable pub chainOf : (book : Book) (log : Log) (chain : List Cell) (one other : Cell) → ChainOutcome
 chainOf b log chain one other = chainByNumber (chainNumber b log chain one other) b log chain one other
 
 -- an answer and a chain buffer are those of an outcome

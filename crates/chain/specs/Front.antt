@@ -5,20 +5,21 @@ use mathlib.Core.Bool.{cond}
 use mathlib.Core.List.{List, [], _∷_}
 use lib.Dec.{ltb}
 use lib.ListN.{take}
+use Rattle.numbers.specs.Kinds.{Label, Labels}
 use Rattle.graph.specs.Forest.{EndsBelow}
 use Rattle.book_state.specs.Arrays.{cells}
 use Rattle.window.specs.Gathered.{linksIn}
 use Rattle.window.specs.Falls.{Falls}
 
 -- how many labels come before the first one below j
-unfoldable pub frontOf : ℕ → List ℕ → ℕ
+unfoldable pub frontOf : (j : Label) (labels : Labels) → ℕ
 frontOf j [] = 0
 frontOf j (l ∷ ls) =
     let more : ℕ = frontOf j ls in
     cond (ltb l j) 0 (suc more)
 
 -- the cells of one side of these links, of the first so many
-abbrev pub sideFrom : ℕ → List ℕ → ℕ → List ℕ → List ℕ
+abbrev pub sideFrom : (j : Label) (labels : Labels) (count : ℕ) (side : List ℕ) → List ℕ
 sideFrom j labels count side = take (frontOf j (take count labels)) side
 
 -- so many links between cells, with labels of at most n that never rise

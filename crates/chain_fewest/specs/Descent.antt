@@ -1,10 +1,11 @@
--- The best trail, cell by cell (document 01, "Chain and hold"): from the first cell always on to the smallest cell across a
+-- The best trail, cell by cell (RULES 5): from the first cell always on to the smallest cell across a
 -- link from which one cell fewer leads on to the second.
 use Prim.Native.Nat.{ℕ, _+_, _≤_, _<_}
 use mathlib.Core.Path.{_≡_}
 use mathlib.Core.Logic.{_⊎_}
 use mathlib.Core.List.{List, _++_}
 use lib.ListN.{length, getD, drop}
+use Rattle.numbers.specs.Kinds.{Cell}
 use Rattle.graph.specs.Link.{Link, Linked}
 use Rattle.chain_fewest.specs.Lists.{linksOf, Leads, BothWays}
 use Rattle.chain_fewest.specs.Levels.{Counted, Known}
@@ -36,5 +37,5 @@ pub record DescentReady
     pub room : getD remaining one 0 ≤ length chain
 
 -- a chain written to the front of a buffer; later places keep what they had
-abbrev pub written : List ℕ → List ℕ → List ℕ
+abbrev pub written : (cells chain : List Cell) → List ℕ
 written cs chain = cs ++ drop (length cs) chain

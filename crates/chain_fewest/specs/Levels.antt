@@ -6,6 +6,7 @@ use mathlib.Core.Path.{_≡_}
 use mathlib.Core.Logic.{_⊎_}
 use mathlib.Core.List.{List, [], _∷_}
 use lib.ListN.{length, getD}
+use Rattle.numbers.specs.Kinds.{Cell}
 use Rattle.graph.specs.Link.{Link, Linked}
 use Rattle.graph.specs.Trail.{Trail, trailOf}
 use Rattle.chain_fewest.specs.Lists.{linksOf, Leads, OneWay}
@@ -25,15 +26,15 @@ unknown (zero ∷ remaining) = suc (unknown remaining)
 unknown (suc n ∷ remaining) = unknown remaining
 
 -- the cell's number is known
-abbrev pub Known : List ℕ → ℕ → Type 0
+abbrev pub Known : (remaining : List ℕ) (cell : Cell) → Type 0
 Known remaining c = 1 ≤ getD remaining c 0
 
 -- the cells across the links of c have their numbers, of which none is higher by more than one
-abbrev pub Closed : List Link → List ℕ → ℕ → Type 0
+abbrev pub Closed : (links : List Link) (remaining : List ℕ) (cell : Cell) → Type 0
 Closed ls remaining c = (d : ℕ) → Linked c d ls → Known remaining d × (getD remaining d 0 ≤ getD remaining c 0 + 1)
 
 -- the number of the cell at a place of the queue
-abbrev pub remainingAt : List ℕ → List ℕ → ℕ → ℕ
+abbrev pub remainingAt : (remaining : List ℕ) (queue : List Cell) (i : ℕ) → ℕ
 remainingAt remaining queue i = getD remaining (getD queue i 0) 0
 
 -- a cell with a number at a place of the queue, and no number is higher by more than one
@@ -44,7 +45,7 @@ pub record Waits (remaining queue : List ℕ) (i : ℕ) : Type 0 where
   pub top : (c : ℕ) → getD remaining c 0 ≤ remainingAt remaining queue i + 1
 
 -- the cell stands in the queue from `head` to `tail`
-abbrev pub Waiting : List ℕ → ℕ → ℕ → ℕ → Type 0
+abbrev pub Waiting : (queue : List Cell) (head tail : ℕ) (cell : Cell) → Type 0
 Waiting queue head tail c = (i : ℕ) × (head ≤ i) × (i < tail) × (getD queue i 0 ≡ c)
 
 -- the search from b, with the queue passed up to `head` and filled up to `tail`

@@ -6,11 +6,12 @@ use Prim.Native.Nat.{ℕ, _<_}
 use mathlib.Core.Path.{_≡_}
 use mathlib.Core.List.{List, [], _∷_}
 use lib.ListN.{length, getD}
+use Rattle.numbers.specs.Kinds.{Cell}
 use Rattle.graph.specs.Link.{Link}
 use Rattle.buckets.specs.Listed.{AllBelow, Listed}
 
 -- the links of two lists of cells
-unfoldable pub linksOf : List ℕ → List ℕ → List Link
+unfoldable pub linksOf : (ones : List ℕ) (others : List Cell) → List Link
 linksOf [] others = []
 linksOf (a ∷ ones) [] = []
 linksOf (a ∷ ones) (b ∷ others) = record { one = a; other = b } ∷ linksOf ones others

@@ -4,9 +4,9 @@
 mod descent; // descent.rt: the best trail, from the first cell down
 mod levels; // levels.rt: how many cells lead on from each cell
 
+use buckets::list_entries;
 use descent::descend;
 use levels::count_cells;
-use buckets::list_entries;
 ghost use Rattle.graph.specs.Trail.{trailOf};
 ghost use Rattle.chain_fewest.specs.Lists.{linksOf, BothWays};
 ghost use Rattle.chain_fewest.specs.Best.{Asked, Given};

@@ -1,4 +1,4 @@
--- The labelled forest of document 01, "Chunks and the two forests", in arrays: which forest of the crate graph the lists of
+-- The labelled forest of RULES 3 in arrays: which forest of the crate graph the lists of
 -- parents, sizes and labels hold, and what each function of this crate gives. The lists may have any length.
 --
 -- A cell beyond a list is its own root, of size 1, with the label 0. So fresh lists hold exactly `fresh`, and a store is
@@ -8,26 +8,27 @@ use mathlib.Core.Bool.{cond}
 use mathlib.Core.List.{List, [], _∷_, map}
 use lib.Dec.{ltb}
 use lib.ListN.{getD, replicate}
+use Rattle.numbers.specs.Kinds.{Cell, Label, Labels, Parents, Sizes}
 use Rattle.graph.specs.Forest as graph
 use Rattle.graph.specs.Forest.{Forest, climb}
 use Rattle.forest.specs.declared.Walk.{Walk}
 
 -- the parent, the size and the label that a list gives a cell
-abbrev pub parentIn : List ℕ → ℕ → ℕ
+abbrev pub parentIn : (parents : Parents) (cell : Cell) → Cell
 parentIn ps c = getD ps c c
 
-abbrev pub sizeIn : List ℕ → ℕ → ℕ
+abbrev pub sizeIn : (sizes : Sizes) (cell : Cell) → ℕ
 sizeIn ss c = getD ss c 1
 
-abbrev pub labelIn : List ℕ → ℕ → ℕ
+abbrev pub labelIn : (labels : Labels) (cell : Cell) → Label
 labelIn ls c = getD ls c 0
 
 -- the forest that the lists hold
-abbrev pub held : List ℕ → List ℕ → List ℕ → Forest
+abbrev pub held : (parents : Parents) (sizes : Sizes) (labels : Labels) → Forest
 held ps ss ls = record { parent = parentIn ps; size = sizeIn ss; label = labelIn ls }
 
 -- the numbers i, i + 1, .., n of them
-unfoldable pub countFrom : ℕ → ℕ → List ℕ
+unfoldable pub countFrom : (first count : ℕ) → List ℕ
 countFrom i zero = []
 countFrom i (suc n) = i ∷ countFrom (suc i) n
 
@@ -47,20 +48,20 @@ abbrev pub walked : graph.Walk → Walk
 walked w = record { root = w .root; steps = w .steps }
 
 -- a walk without a cut
-abbrev pub walkOf : List ℕ → ℕ → ℕ → Walk
+abbrev pub walkOf : (parents : Parents) (limit : ℕ) (cell : Cell) → Walk
 walkOf ps limit c = walked (climb (parentIn ps) limit c)
 
 -- the parent at a cut: a step whose label is below the cut is not taken
-abbrev pub parentAtIn : List ℕ → List ℕ → ℕ → ℕ → ℕ
+abbrev pub parentAtIn : (parents : Parents) (labels : Labels) (cut : Label) (cell : Cell) → Cell
 parentAtIn ps ls cut c = cond (ltb (labelIn ls c) cut) c (parentIn ps c)
 
 -- a walk at a cut
-abbrev pub walkAtOf : List ℕ → List ℕ → ℕ → ℕ → ℕ → Walk
+abbrev pub walkAtOf : (parents : Parents) (labels : Labels) (limit : ℕ) (cut : Label) (cell : Cell) → Walk
 walkAtOf ps ls limit cut c = walked (climb (parentAtIn ps ls cut) limit c)
 
 -- the roots of the cells 0 to n - 1, without a cut and at a cut
-abbrev pub rootsOf : List ℕ → ℕ → ℕ → List ℕ
+abbrev pub rootsOf : (parents : Parents) (limit n : ℕ) → List Cell
 rootsOf ps limit n = map (λ c. climb (parentIn ps) limit c .root) (freshParents n)
 
-abbrev pub rootsAtOf : List ℕ → List ℕ → ℕ → ℕ → ℕ → List ℕ
+abbrev pub rootsAtOf : (parents : Parents) (labels : Labels) (limit : ℕ) (cut : Label) (n : ℕ) → List Cell
 rootsAtOf ps ls limit cut n = map (λ c. climb (parentAtIn ps ls cut) limit c .root) (freshParents n)

@@ -1,4 +1,4 @@
-// The labelled forest of document 01 in arrays: parents, sizes and labels of cells, each an array of its own.
+// The labelled forest of RULES 3 in arrays: parents, sizes and labels of cells, each an array of its own.
 // Functions that read take slices, and are total: a cell beyond a slice is its own root, of size 1, with label 0.
 pub mod walks; // walks.rt: the root and the steps of a cell, without a cut and at a cut
 

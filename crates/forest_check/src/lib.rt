@@ -1,4 +1,4 @@
-// Number 1 of document 01, for one forest in arrays: these are within their ranges, and no walk exceeds its steps.
+// Number 1 (RULES 7.8), for one forest in arrays: these are within their ranges, and no walk exceeds its steps.
 //
 // It is asked at every call, so it is quick where the forest is one that links made: there each step of a walk at least
 // doubles a size that stays within the number of cells. Only where some size does not do that are the walks taken.

@@ -1,4 +1,4 @@
--- Two cells joined across the two forests (document 01, "Crossing"): each list gives a cell's key, the root of its tree, on
+-- Two cells joined across the two forests (RULES 4): each list gives a cell's key, the root of its tree, on
 -- one side, and the cells of equal key are one group of that side.
 use Prim.Native.Nat.{ℕ, _<_}
 use mathlib.Core.Path.{_≡_}

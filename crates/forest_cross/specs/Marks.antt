@@ -5,6 +5,7 @@ use mathlib.Core.Path.{_≡_}
 use mathlib.Core.Logic.{_⊎_}
 use mathlib.Core.List.{List}
 use lib.ListN.{length, getD}
+use Rattle.numbers.specs.Kinds.{Cell}
 use Rattle.buckets.specs.Listed.{Listed}
 use Rattle.forest_cross.specs.Across.{Across}
 
@@ -25,15 +26,15 @@ pub record Begins (keys marks : List ℕ) (group : ℕ) : Type 0 where
   pub unmarked : getD marks group 0 ≡ 0
 
 -- the group has its mark
-abbrev pub Marked : List ℕ → ℕ → Type 0
+abbrev pub Marked : (marks : List ℕ) (group : ℕ) → Type 0
 Marked marks group = 1 ≤ getD marks group 0
 
 -- the cell's group has its mark
-abbrev pub Met : List ℕ → List ℕ → ℕ → Type 0
+abbrev pub Met : (keys marks : List ℕ) (cell : Cell) → Type 0
 Met keys marks c = Marked marks (getD keys c 0)
 
 -- each cell of the own group leads across to c
-abbrev pub Reached : List ℕ → List ℕ → ℕ → ℕ → Type 0
+abbrev pub Reached : (own other : List ℕ) (group : ℕ) (cell : Cell) → Type 0
 Reached own other group c = (a : ℕ) → a < length own → getD own a 0 ≡ group → Across own other a c
 
 -- the marks of one side, before and after: none is lost; a cell that is newly met is reached; and it is met on the other side too

@@ -1,8 +1,8 @@
-// Crossing (document 01): from a group of the backward forest to each forward group that shares a cell with it, and from
+// Crossing (RULES 4): from a group of the backward forest to each forward group that shares a cell with it, and from
 // there back again, until no new group is met. A cell's key is the root of its tree; the cells of one key are a group, and are
 // listed (crate lists).
-use buckets::list_entries;
 use buckets::entry_at;
+use buckets::list_entries;
 ghost use Prim.Native.Nat.{_<_};
 ghost use Rattle.forest_cross.specs.Across.{Keyed, JoinedAcross};
 ghost use Rattle.forest_cross.specs.Marks.{Sides, Begins, Crossed};

@@ -1,10 +1,11 @@
--- Links between cells, and which cells they chain together (document 01, "What is built").
+-- Links between cells, and which cells they chain together (RULES intro).
 -- `Chained` is the meaning; `chains` decides it.
 use Prim.Native.Nat.{ℕ}
 use mathlib.Core.Path.{_≡_}
 use mathlib.Core.Bool.{Bool, cond}
 use mathlib.Core.List.{List, [], _∷_}
 use lib.Dec.{eqb}
+use Rattle.numbers.specs.Kinds.{Cell}
 
 -- two cells that were one surface
 pub record Link : Type 0 where
@@ -27,7 +28,7 @@ pub data Chained (ls : List Link) (a : ℕ) : ℕ → Type 0 where
   more : {b c : ℕ} → Chained ls a b → Linked b c ls → Chained ls a c
 
 -- a number for each cell's group: with each link, the group of its one end takes the number of the other's
-unfoldable pub group : List Link → ℕ → ℕ
+unfoldable pub group : (links : List Link) (cell : Cell) → ℕ
 group [] = λ c. c
 group (l ∷ ls) =
     let g : ℕ → ℕ = group ls in
@@ -38,7 +39,7 @@ group (l ∷ ls) =
     cond (eqb now from) to now
 
 -- whether the links chain a and b
-unfoldable pub chains : List Link → ℕ → ℕ → Bool
+unfoldable pub chains : (links : List Link) (a b : Cell) → Bool
 unfolding group
 chains ls a b =
     let g : ℕ → ℕ = group ls in

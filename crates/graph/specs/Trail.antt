@@ -1,4 +1,4 @@
--- Trails (document 01, "Chain and hold"): lists of cells, each neighbouring two linked; the one with the fewest links
+-- Trails (RULES 5): lists of cells, each neighbouring two linked; the one with the fewest links
 -- that comes first by cell numbers (`Best`), and a finder of it (`trailOf`).
 --
 -- The finder rests on `fewestLinks`, which grows with the list of links: a shortest trail passes a further link not at
@@ -10,6 +10,7 @@ use mathlib.Core.List.{List, [], _∷_}
 use mathlib.Core.Option.{Option, none, some}
 use lib.Dec.{eqb}
 use lib.ListN.{length}
+use Rattle.numbers.specs.Kinds.{Cell}
 use Rattle.graph.specs.Link.{Link, Linked}
 
 -- the list leads from a to b: it starts with a and ends with b, and each neighbouring two are linked
@@ -42,7 +43,7 @@ through (some m) none = none
 through (some m) (some n) = some (m + 1 + n)
 
 -- the fewest links of a trail from a to b, if there is one
-unfoldable pub fewestLinks : List Link → ℕ → ℕ → Option ℕ
+unfoldable pub fewestLinks : (links : List Link) (a b : Cell) → Option ℕ
 unfolding smaller through
 fewestLinks [] a b = cond (eqb a b) (some 0) none
 fewestLinks (l ∷ ls) a b =
@@ -51,18 +52,18 @@ fewestLinks (l ∷ ls) a b =
     (through (fewestLinks ls a (l .other)) (fewestLinks ls (l .one) b)))
 
 -- the number is there and is k
-unfoldable pub isSome : Option ℕ → ℕ → Bool
+unfoldable pub isSome : (m : Option ℕ) (k : ℕ) → Bool
 isSome none k = false
 isSome (some m) k = eqb m k
 
 -- c, if it stands across a link from a and k links of `all` lead on from it to b
-unfoldable pub offered : List Link → ℕ → ℕ → Bool → ℕ → Option ℕ
+unfoldable pub offered : (all : List Link) (b : Cell) (k : ℕ) (across : Bool) (cell : Cell) → Option ℕ
 unfolding fewestLinks isSome
 offered all b k false c = none
 offered all b k true c = cond (isSome (fewestLinks all c b) k) (some c) none
 
 -- the smallest cell that a link of the list joins with a and from which k links of `all` lead on to b
-unfoldable pub nextCell : List Link → ℕ → ℕ → ℕ → List Link → Option ℕ
+unfoldable pub nextCell : (all : List Link) (b : Cell) (k : ℕ) (a : Cell) (links : List Link) → Option ℕ
 unfolding offered smaller
 nextCell all b k a [] = none
 nextCell all b k a (l ∷ ls) =
@@ -70,7 +71,7 @@ nextCell all b k a (l ∷ ls) =
     (smaller (offered all b k (eqb (l .other) a) (l .one)) (nextCell all b k a ls))
 
 -- from a cell k links away from b, always to the smallest cell that is one link nearer
-unfoldable pub descend : List Link → ℕ → ℕ → Option ℕ → List ℕ
+unfoldable pub descend : (links : List Link) (b : Cell) (k : ℕ) (from : Option ℕ) → List Cell
 unfolding nextCell
 descend ls b zero none = []
 descend ls b zero (some a) = a ∷ []
@@ -78,12 +79,12 @@ descend ls b (suc k) none = []
 descend ls b (suc k) (some a) = a ∷ descend ls b k (nextCell ls b k a ls)
 
 -- the best trail from a to b, by the number of its links
-unfoldable pub trailOfLinks : List Link → ℕ → ℕ → Option ℕ → List ℕ
+unfoldable pub trailOfLinks : (links : List Link) (a b : Cell) (count : Option ℕ) → List Cell
 unfolding descend
 trailOfLinks ls a b none = []
 trailOfLinks ls a b (some k) = descend ls b k (some a)
 
 -- the best trail from a to b; the empty list where there is none
-unfoldable pub trailOf : List Link → ℕ → ℕ → List ℕ
+unfoldable pub trailOf : (links : List Link) (a b : Cell) → List Cell
 unfolding trailOfLinks fewestLinks
 trailOf ls a b = trailOfLinks ls a b (fewestLinks ls a b)

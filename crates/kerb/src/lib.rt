@@ -5,12 +5,12 @@
 use book::fields;
 use book::fields::FieldsAnswer;
 use book_joined::JoinedAnswer;
+use book_state::Book;
+use chain::ChainAnswer;
 use file::Reading;
 use listing::Listed;
 use settings::Settings;
 use slides::Clock;
-use book_state::Book;
-use chain::ChainAnswer;
 ghost use mathlib.Core.Path.{_≡_};
 ghost use lib.ListN.{length};
 ghost use Rattle.book_state.specs.Order.{neverOpened, bookOf};

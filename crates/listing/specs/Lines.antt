@@ -1,10 +1,11 @@
--- The lines of the listing (document 01, "The listing"): their words, and the lines of the groups, as the definition asks for them
+-- The lines of the listing (RULES 8): their words, and the lines of the groups, as the definition asks for them
 -- and as arrays tell them, which the code has.
 use Prim.Native.Nat.{ℕ, _≤_, _<_}
 use mathlib.Core.Bool.{Bool, true, false, _&&_}
 use mathlib.Core.List.{List, [], _∷_, _++_}
 use lib.Dec.{eqb, ltb}
 use lib.ListN.{length, getD}
+use Rattle.numbers.specs.Kinds.{Bytes, Cell, Number}
 use Rattle.graph.specs.Forest.{Labelled}
 use Rattle.forest.specs.Arrays.{countFrom}
 use Rattle.book_state.specs.Arrays.{cells}
@@ -32,40 +33,40 @@ abbrev pub refusedFile : ℕ → List ℕ
 refusedFile k = refusedWord ++ fields (k ∷ []) ++ (blank ∷ fileWord ++ lineFeed ∷ [])
 
 -- "refused", the number and the record's place from 0
-abbrev pub refusedRecord : ℕ → ℕ → List ℕ
+abbrev pub refusedRecord : (k : Number) (place : ℕ) → Bytes
 refusedRecord k place = line refusedWord (k ∷ place ∷ [])
 
 -- ---- the groups
 
 -- c is the smallest cell of a group of two or more
-abbrev pub leads : ℕ → ℕ → ℕ → Bool
+abbrev pub leads : (cell : Cell) (first count : ℕ) → Bool
 leads c first count = eqb first c && ltb 1 count
 
 -- smallest cell, number of cells, least hold over its pairs
-unfoldable pub groupLineIf : Bool → ℕ → ℕ → ℕ → List ℕ
+unfoldable pub groupLineIf : (shown : Bool) (cell : Cell) (count hold : ℕ) → Bytes
 groupLineIf true c count hold = line groupWord (c ∷ count ∷ hold ∷ [])
 groupLineIf false c count hold = []
 
 -- the line of a cell's group, if the cell leads it
-abbrev pub groupLine : ℕ → ℕ → ℕ → ℕ → List ℕ
+abbrev pub groupLine : (cell : Cell) (first count hold : ℕ) → Bytes
 groupLine c first count hold = groupLineIf (leads c first count) c count hold
 
 -- one line after the other
-unfoldable pub linesOf : (ℕ → List ℕ) → List ℕ → List ℕ
+unfoldable pub linesOf : (text : ℕ → List ℕ) (cells : List Cell) → List ℕ
 linesOf text [] = []
 linesOf text (c ∷ cs) = text c ++ linesOf text cs
 
 -- one line per group of two or more cells, by smallest cell
-abbrev pub groupLines : ℕ → List Labelled → List ℕ
+abbrev pub groupLines : (n : ℕ) (links : List Labelled) → Bytes
 groupLines n xs =
     linesOf (λ c. let group : List ℕ = groupOf xs c in groupLine c (smallest group) (length group) (leastHold n xs group)) (countFrom 0 cells)
 
 -- ---- told by arrays: of each cell, its group's smallest cell, number of cells and least hold
 
-abbrev pub toldLine : List ℕ → List ℕ → List ℕ → ℕ → List ℕ
+abbrev pub toldLine : (firsts counts holds : List ℕ) (cell : Cell) → Bytes
 toldLine firsts counts holds c = groupLine c (getD firsts c 0) (getD counts c 0) (getD holds c 0)
 
-abbrev pub toldLines : List ℕ → List ℕ → List ℕ → List ℕ
+abbrev pub toldLines : (firsts counts holds : List ℕ) → Bytes
 toldLines firsts counts holds = linesOf (toldLine firsts counts holds) (countFrom 0 cells)
 
 -- numbers with few digits

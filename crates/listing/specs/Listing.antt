@@ -1,10 +1,11 @@
--- What kerblist prints for a file (document 01, "The listing"), as bytes.
+-- What kerblist prints for a file (RULES 8), as bytes.
 use Prim.Native.Nat.{ℕ, zero, suc}
 use mathlib.Core.Path.{_≡_}
 use mathlib.Core.Bool.{Bool, true, false}
 use mathlib.Core.List.{List, [], _∷_, _++_}
 use lib.Dec.{leb}
 use lib.ListN.{length, drop, replicate}
+use Rattle.numbers.specs.Kinds.{Bytes, Log, Number}
 use Rattle.slides.specs.Clock.{openSlide}
 use Rattle.slides.specs.declared.Clock.{Clock}
 use Rattle.file.specs.Format.{readOf}
@@ -20,30 +21,30 @@ use Rattle.text.specs.Text.{line}
 use Rattle.file_play.specs.Play.{Play, playFrom}
 
 -- n, B, mounting, open slide
-abbrev pub windowLine : Clock → ℕ → List ℕ
+abbrev pub windowLine : (clock : Clock) (mounting : ℕ) → Bytes
 windowLine clock mounting = line windowWord (clock .n ∷ clock .b ∷ mounting ∷ openSlide clock ∷ [])
 
 -- that line; the groups; links stored in the window, repeats counted
-unfoldable pub bookText : Book → List ℕ → List ℕ
+unfoldable pub bookText : (book : Book) (log : Log) → Bytes
 bookText b log =
     windowLine (b .clock) (b .mounting)
     ++ groupLines (b .clock .n) (windowLinks b log)
     ++ line linksWord (length (windowLinks b log) ∷ [])
 
 -- by the number of the first record that is refused
-unfoldable pub playedText : ℕ → Play → List ℕ
+unfoldable pub playedText : (number : Number) (play : Play) → Bytes
 playedText zero p = bookText (p .book) (p .log)
 playedText (suc k) p = refusedRecord (suc k) (p .place)
 
 -- by the opening's number
-unfoldable pub openedText : ℕ → List ℕ → ℕ → Outcome → List ℕ
+unfoldable pub openedText : (number : Number) (file : Bytes) (m : ℕ) (outcome : Outcome) → Bytes
 openedText zero file m o =
     let p : Play = playFrom file 0 m (o .book) (o .log) in
     playedText (p .number) p
 openedText (suc k) file m o = refusedFile (suc k)
 
 -- by the reader's number: the file is played into a book of its own, with a log of its own
-unfoldable pub readText : ℕ → List ℕ → Reading → List ℕ
+unfoldable pub readText : (number : Number) (file : Bytes) (reading : Reading) → Bytes
 readText zero file r =
     let o : Outcome = openingOf neverOpened (replicate logPlaces 0) (r .settings) in
     openedText (o .number) file (r .m) o
@@ -65,11 +66,11 @@ pub record Listing : Type 0 where
   pub output : List ℕ
 
 -- the text at the front of the output, and no byte beyond; an output that is too short is unchanged
-unfoldable pub listedIf : Bool → List ℕ → List ℕ → Listing
+unfoldable pub listedIf : (fits : Bool) (text out : Bytes) → Listing
 listedIf true text out = record { listed = record { length = length text; number = 0 }; output = text ++ drop (length text) out }
 listedIf false text out = record { listed = record { length = 0; number = 6 }; output = out }
 
-unfoldable pub listingOf : List ℕ → List ℕ → Listing
+unfoldable pub listingOf : (file out : Bytes) → Listing
 listingOf file out = listedIf (leb outputPlaces (length out)) (listingText file) out
 
 -- an answer and an output are those of a listing

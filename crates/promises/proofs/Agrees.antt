@@ -1,5 +1,5 @@
 -- When a book and its log agree with a history: the clock and the settings are the history's, each live place of the log
--- holds the links of its slide in order of arrival, and the arrays hold the two forests of document 01. Everything that is
+-- holds the links of its slide in order of arrival, and the arrays hold the two forests of RULES 3. Everything that is
 -- promised of books that calls have left follows from this; Keeps shows that calls keep it.
 use Prim.Native.Nat.{ℕ, _+_, _/_, _%_, _≤_, _<_}
 use mathlib.Core.Path.{_≡_}
@@ -11,7 +11,8 @@ use Rattle.settings.specs.Settings.{takenNumber}
 use Rattle.forest.specs.Arrays.{parentIn, sizeIn, held}
 use Rattle.book_state.specs.Arrays.{cells}
 use Rattle.book_state.specs.Log.{halfOf, spotOf, startOf, linksAt}
-use Rattle.book_state.specs.Numbers.{has, logPlaces}
+use Rattle.numbers.specs.Checks.{has}
+use Rattle.book_state.specs.Numbers.{logPlaces}
 use Rattle.promises.specs.History.{Stored, History, clockIn, openSlideIn, chunkIn, slideLinks, howMany, linksOf}
 use Rattle.promises.specs.Panel.{State}
 use Rattle.promises.specs.Demands.{forwardForest, backwardForest}

@@ -26,7 +26,8 @@ use Rattle.graph.proofs.Finder.{trailOf-best, best-trailOf}
 use Rattle.graph.proofs.Distinct.{best-few}
 use Rattle.slides.specs.Clock.{notBefore, slideOf}
 use Rattle.book_state.specs.Arrays.{cells}
-use Rattle.book_state.specs.Numbers.{firstOf, unless, has, areCells}
+use Rattle.numbers.specs.Checks.{firstOf, unless, has}
+use Rattle.book_state.specs.Numbers.{areCells}
 use Rattle.book_joined.specs.Joined.{joinedOf}
 use Rattle.window.specs.Window.{windowLinks, linksFromLabel}
 use Rattle.window.proofs.Highest.{chained-highest, highest-chained, highest-most}
@@ -36,8 +37,8 @@ use Rattle.promises.specs.Panel.{ours, State, stateOf, gives, givesChain
 use Rattle.promises.specs.Demands.{ChainGiven, DifferentCells, Itself, Answers, Chain}
 use Rattle.promises.proofs.Agrees.{Agrees}
 use Rattle.promises.proofs.Lists.{same-test}
-use Rattle.promises.proofs.Numbers.{first-last, first-under}
-use Rattle.book_state.proofs.Checks.{passes}
+use Rattle.numbers.proofs.Checks.{first-last, first-under}
+use Rattle.numbers.proofs.Checks.{passes}
 use Rattle.promises.proofs.NumbersAgree.{itself}
 use Rattle.promises.proofs.InOrder.{agrees-in-order}
 use Rattle.promises.proofs.KeptByTime.{slide-then}

@@ -21,7 +21,8 @@ use Rattle.book_state.specs.Arrays.{united, unitedAll}
 use Rattle.book_state.specs.Log.{linksAt, chunkLinks, stored}
 use Rattle.book_state.specs.Order.{inOrder, inOrderOf}
 use Rattle.book_time.specs.Time.{cleared, emptied, stayed, backwardOf, turned, movedByChunk, movedBook}
-use Rattle.book_state.specs.Numbers.{firstOf, has, logPlaces}
+use Rattle.numbers.specs.Checks.{firstOf, has}
+use Rattle.book_state.specs.Numbers.{logPlaces}
 use Rattle.book_joined.specs.Joined.{parentSteps, parentStepsAt, stepLinks, fourWalks, joinedNumber, joinedByNumber, joinedOf}
 use Rattle.book.specs.Calls.{openingNumber, openingByNumber, openingOf, linkNumber, linkStored, linkByNumber, linkOf, clockNumber, clockByNumber, clockOf}
 use Rattle.chain.specs.Chain.{chainPlaces}

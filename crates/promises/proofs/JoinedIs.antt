@@ -21,7 +21,8 @@ use Rattle.book_state.specs.declared.Book.{Book}
 use Rattle.book_state.specs.Arrays.{stepLimit}
 use Rattle.book_state.specs.Order.{inOrder}
 use Rattle.book_joined.specs.Joined as calls
-use Rattle.book_state.specs.Numbers.{areCells, firstOf}
+use Rattle.numbers.specs.Checks.{firstOf}
+use Rattle.book_state.specs.Numbers.{areCells}
 use Rattle.book_joined.specs.Joined.{cutOf, stepLinks, fourWalks, joinedOf, joinedByNumber, joinedNumber}
 use Rattle.promises.specs.History.{History, clockIn, openSlideIn, windowOf, backwardLinks}
 use Rattle.promises.specs.Panel.{State, ours}

@@ -39,8 +39,8 @@ use Rattle.promises.specs.History.{
 use Rattle.promises.specs.Panel.{ours, State, stateOf, gives, after}
 use Rattle.promises.specs.Demands.{roomIn, HasHistory}
 use Rattle.promises.proofs.Agrees.{Agrees}
-use Rattle.promises.proofs.Numbers.{has-front, has-long}
-use Rattle.book_state.proofs.Checks.{first-passed, unless-passed}
+use Rattle.numbers.proofs.Checks.{has-front, has-long}
+use Rattle.numbers.proofs.Checks.{first-passed, unless-passed}
 use Rattle.book.proofs.Taken.{Taken, taken}
 use Rattle.promises.proofs.NumbersAgree.{stored-agrees, link-number, clock-number}
 use Rattle.promises.proofs.KeptByOpening.{opening-agrees}

@@ -27,7 +27,7 @@ use Rattle.promises.specs.History.{Stored, History, openSlideIn, chunkIn
 use Rattle.promises.specs.Panel.{State, stateOf}
 use Rattle.promises.specs.Demands.{forwardForest}
 use Rattle.promises.proofs.Agrees.{next, Sensible, Live, spotIn, Kept, Agrees}
-use Rattle.promises.proofs.Numbers.{has-places, has-long}
+use Rattle.numbers.proofs.Checks.{has-places, has-long}
 use Rattle.promises.proofs.Lists.{taken-one, left-one}
 use Rattle.promises.proofs.BySlide.{labelBy}
 use Rattle.promises.proofs.Forests.{forward-labels, forward-ends}

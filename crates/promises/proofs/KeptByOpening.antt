@@ -20,11 +20,12 @@ use Rattle.forest.specs.Arrays.{held}
 use Rattle.book_state.specs.Arrays.{stepLimit, freshArrays}
 use Rattle.book_state.specs.Log.{linksAt}
 use Rattle.book_time.specs.Time.{emptied}
-use Rattle.book_state.specs.Numbers.{has, logPlaces}
+use Rattle.numbers.specs.Checks.{has}
+use Rattle.book_state.specs.Numbers.{logPlaces}
 use Rattle.promises.specs.History.{History, clockIn, chunkIn, ofSlides, howMany, slideLinks, begun, forwardLinks, backwardLinks}
 use Rattle.promises.specs.Panel.{State}
 use Rattle.promises.proofs.Agrees.{none, Sensible, Live, spotIn, Kept, Agrees}
-use Rattle.promises.proofs.Numbers.{has-front}
+use Rattle.numbers.proofs.Checks.{has-front}
 use Rattle.book_time.proofs.Moves.{zeros}
 use Rattle.promises.proofs.BySlide.{labelBy}
 use Rattle.book_state.proofs.Built.{holds-fresh}

@@ -15,7 +15,6 @@ pub mod KeptByOpening
 pub mod KeptByTime
 pub mod Lists
 pub mod Log
-pub mod Numbers
 pub mod NumbersAgree
 pub mod Refused
 pub mod Single

@@ -17,15 +17,16 @@ use Rattle.slides.specs.Clock.{notBefore, slideOf, placeOf}
 use Rattle.slides.proofs.Slides.{slide-later, place-rest}
 use Rattle.book_state.specs.declared.Book.{Book}
 use Rattle.book_state.specs.Log.{halfOf, spotOf, stored}
-use Rattle.book_state.specs.Numbers.{firstOf, unless, areCells}
+use Rattle.numbers.specs.Checks.{firstOf, unless}
+use Rattle.book_state.specs.Numbers.{areCells}
 use Rattle.book_joined.specs.Joined.{joinedNumber, joinedByNumber, joinedOf}
 use Rattle.book.specs.Calls.{openingNumber, openingByNumber, openingOf, linkNumber, linkStored, linkByNumber, linkOf, clockNumber, clockByNumber, clockOf}
 use Rattle.promises.specs.History.{Call, opening, link, clock, History, clockIn, chunkIn, howMany, slideLinks, numberIn}
 use Rattle.promises.specs.Panel.{ours, State, gives}
 use Rattle.promises.specs.Demands.{roomIn}
 use Rattle.promises.proofs.Agrees.{Agrees}
-use Rattle.promises.proofs.Numbers.{first-last, first-under}
-use Rattle.book_state.proofs.Checks.{passes}
+use Rattle.numbers.proofs.Checks.{first-last, first-under}
+use Rattle.numbers.proofs.Checks.{passes}
 use Rattle.promises.proofs.Lists.{fails, none-later}
 use Rattle.promises.proofs.InOrder.{sensible-range, agrees-in-order}
 

@@ -4,7 +4,7 @@ use mathlib.Core.Path.{_≡_, _∙_, ap}
 use mathlib.Core.List.{[], _∷_}
 use Rattle.settings.specs.Settings.{takenNumber}
 use Rattle.settings.specs.declared.Settings.{Settings}
-use Rattle.book_state.specs.Numbers.{firstOf, unless}
+use Rattle.numbers.specs.Checks.{firstOf, unless}
 use Rattle.book.specs.Calls.{openingNumber}
 use Rattle.promises.specs.History.{opening, numberIn}
 use Rattle.promises.specs.Panel.{ours, State, gives}

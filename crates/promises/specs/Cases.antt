@@ -1,4 +1,4 @@
--- Document 01, "Checks at the bench", P1 to P12, as one table under one statement: a script of calls and questions, each
+-- P1 to P12 (RULES 9), as one table under one statement: a script of calls and questions, each
 -- question with its answer, and what the very definitions that the contracts cite give for it, from an opening on, for
 -- every start book and every log that is long enough.
 use Prim.Native.Nat.{ℕ}
@@ -19,13 +19,14 @@ use Rattle.book_state.specs.Arrays.{united, unitedAll}
 use Rattle.book_state.specs.Log.{linksAt, chunkLinks, stored}
 use Rattle.book_state.specs.Order.{inOrder, inOrderOf}
 use Rattle.book_time.specs.Time.{cleared, emptied, stayed, backwardOf, turned, movedByChunk, movedBook}
-use Rattle.book_state.specs.Numbers.{firstOf, has, logPlaces}
+use Rattle.numbers.specs.Checks.{firstOf, has}
+use Rattle.book_state.specs.Numbers.{logPlaces}
 use Rattle.book_joined.specs.Joined.{parentSteps, parentStepsAt, stepLinks, fourWalks, joinedNumber, joinedByNumber, joinedOf}
 use Rattle.book.specs.Calls.{Outcome, openingNumber, openingByNumber, openingOf, linkNumber, linkStored, linkByNumber, linkOf, clockNumber, clockByNumber, clockOf}
 use Rattle.window.specs.Window.{linksFromAge, windowLinks, highest}
 use Rattle.chain.specs.Chain.{ChainOutcome, chainPlaces, chainNumber, chainByNumber, chainOf}
 
--- a call, or a question with the answer that document 01 gives
+-- a call, or a question with the answer that RULES 9 gives
 pub data Step : Type 0 where
   opening : (n b t0 mounting : ℕ) → Step
   link : (tick one other : ℕ) → Step
@@ -74,7 +75,7 @@ given s (joined one other answer steps ∷ ds) =
 given s (chain one other cells hold ∷ ds) = seen (chainOf (s .book) (s .log) buffer one other) ∷ given s ds
 given s (noTrail one other ∷ ds) = number (chainOf (s .book) (s .log) buffer one other .answer .number) ∷ given s ds
 
--- what document 01 says that they give
+-- what RULES 9 says that they give
 unfoldable pub stated : List Step → List Row
 stated [] = []
 stated (opening n b t0 mounting ∷ ds) = number 0 ∷ stated ds

@@ -7,6 +7,7 @@ use mathlib.Core.Bool.{Bool, true, false}
 use mathlib.Core.List.{List, [], _∷_}
 use mathlib.Core.Option.{some}
 use lib.ListN.{length, take, drop}
+use Rattle.numbers.specs.Kinds.{Cell}
 use Rattle.graph.specs.Link.{Chained, chains}
 use Rattle.graph.specs.Trail.{Best}
 use Rattle.graph.specs.Forest.{Forest, forestOf, walk, walkAt, parentAt}
@@ -16,7 +17,8 @@ use Rattle.slides.specs.Clock.{notBefore, slideOf}
 use Rattle.book_state.specs.declared.Book.{Book}
 use Rattle.book_joined.specs.declared.JoinedAnswer.{JoinedAnswer}
 use Rattle.book_state.specs.Arrays.{stepLimit}
-use Rattle.book_state.specs.Numbers.{firstOf, unless, has, logPlaces, areCells}
+use Rattle.numbers.specs.Checks.{firstOf, unless, has}
+use Rattle.book_state.specs.Numbers.{logPlaces, areCells}
 use Rattle.file.specs.Format.{readNumber, readOf, writeNumber, outputOf}
 use Rattle.file_play.specs.Play.{Play, playFrom, recordGives}
 use Rattle.listing.specs.Listing.{listingOf}
@@ -87,7 +89,7 @@ pub record FilesRefused : Type 0 where
       Stopped file 0 b log (playFrom file 0 m b log)
   pub list : (file out : List ℕ) → (listingOf file out .listed .number ≡ 0 → ⊥) → listingOf file out .output ≡ out
 
--- the two forests of the history, folded as document 01 says, and the cut
+-- the two forests of the history, folded as RULES 3 says, and the cut
 abbrev pub forwardForest : History → Forest
 forwardForest h = forestOf stepLimit (forwardLinks h)
 
@@ -98,10 +100,10 @@ abbrev pub cutIn : History → ℕ
 cutIn h = placeIn h + 1
 
 -- a cell's steps in the two forests
-abbrev pub backwardStepCount : History → ℕ → ℕ
+abbrev pub backwardStepCount : (history : History) (cell : Cell) → ℕ
 backwardStepCount h c = walkAt stepLimit (backwardForest h) (cutIn h) c .steps
 
-abbrev pub forwardStepCount : History → ℕ → ℕ
+abbrev pub forwardStepCount : (history : History) (cell : Cell) → ℕ
 forwardStepCount h c = walk stepLimit (forwardForest h) c .steps
 
 -- both walks of a cell end, and within 10 steps: where they stop there is no further step to take

@@ -1,10 +1,11 @@
--- The builds that document 01 names as ones to be shut out ("What the contracts have to settle"), as panels. Each is as near to ours
+-- The builds that must be shut out (RULES 10.5), as panels. Each is as near to ours
 -- as its fault allows.
 use Prim.Native.Nat.{ℕ, zero, suc, _+_}
 use mathlib.Core.Bool.{Bool, false, cond}
 use mathlib.Core.List.{List, _∷_}
 use lib.Dec.{ltb}
 use lib.ListN.{drop}
+use Rattle.numbers.specs.Kinds.{Log, Number, Tick}
 use Rattle.slides.specs.Clock.{slideOf}
 use Rattle.book_state.specs.declared.Book.{Book}
 use Rattle.book_joined.specs.declared.JoinedAnswer.{JoinedAnswer}
@@ -65,7 +66,7 @@ abbrev pub withLink : (Book → List ℕ → ℕ → ℕ → ℕ → Outcome) �
 withLink link = record { openingGives = openingOf; linkGives = link; clockGives = clockOf; joinedGives = joinedOf; chainGives = chainOf }
 
 -- by the number: the time moves, and nothing is stored
-unfoldable pub forgotten : ℕ → Book → List ℕ → ℕ → Outcome
+unfoldable pub forgotten : (number : Number) (book : Book) (log : Log) (tick : Tick) → Outcome
 forgotten zero b log tick = clockOf b log tick
 forgotten (suc k) b log tick = record { book = b; log = log; number = suc k }
 

@@ -1,10 +1,11 @@
--- What has happened, as the calls and document 01's table tell it, and never a book: the settings, the latest time, and each
--- accepted link with its slide and the lorry's cells. The window and the two forests of document 01 are said of it.
+-- What has happened, as the calls and the table (RULES 7) tell it, and never a book: the settings, the latest time, and each
+-- accepted link with its slide and the lorry's cells. The window and the two forests of RULES 3 are said of it.
 use Prim.Native.Nat.{ℕ, zero, suc, _+_, _/_, _%_}
 use mathlib.Core.Bool.{Bool, cond, _&&_}
 use mathlib.Core.List.{List, [], _∷_, map, reverse}
 use mathlib.Core.Option.{Option, none, some}
 use lib.Dec.{eqb, leb, ltb}
+use Rattle.numbers.specs.Kinds.{Cell, Number, Tick}
 use Rattle.graph.specs.Link.{Link}
 use Rattle.graph.specs.Forest.{Labelled}
 use Rattle.settings.specs.Settings.{takenNumber}
@@ -12,7 +13,8 @@ use Rattle.settings.specs.declared.Settings.{Settings}
 use Rattle.cells.specs.Cell.{lorryCell}
 use Rattle.slides.specs.Clock.{notBefore, slideOf, openSlide}
 use Rattle.slides.specs.declared.Clock.{Clock}
-use Rattle.book_state.specs.Numbers.{firstOf, unless, areCells}
+use Rattle.numbers.specs.Checks.{firstOf, unless}
+use Rattle.book_state.specs.Numbers.{areCells}
 
 -- what a panel program can ask for that changes a book
 pub data Call : Type 0 where
@@ -50,7 +52,7 @@ howMany [] = 0
 howMany (s ∷ ss) = suc (howMany ss)
 
 -- the links of one slide
-abbrev pub slideLinks : ℕ → List Stored → List Stored
+abbrev pub slideLinks : (s : ℕ) (links : List Stored) → List Stored
 slideLinks s ss = ofSlides (λ t. eqb t s) ss
 
 -- ---- the table
@@ -71,11 +73,11 @@ numberIn room h (clock tick) = unless (notBefore (clockIn h) tick) 4
 abbrev pub begun : Settings → History
 begun s = record { settings = s; time = s .t0; links = [] }
 
-abbrev pub withTime : History → ℕ → History
+abbrev pub withTime : (history : History) (tick : Tick) → History
 withTime h tick = record { settings = h .settings; time = tick; links = h .links }
 
 -- links arrive in the unit's numbers and are stored in the lorry's
-abbrev pub lorryLink : History → ℕ → ℕ → Link
+abbrev pub lorryLink : (history : History) (one other : Cell) → Link
 lorryLink h one other =
     record { one = lorryCell (h .settings .mounting) one; other = lorryCell (h .settings .mounting) other }
 
@@ -89,12 +91,12 @@ added h (link tick one other) = withLink (withTime h tick) (lorryLink h one othe
 added h (clock tick) = withTime h tick
 
 -- by the number: a refused call adds nothing
-unfoldable pub addedByNumber : ℕ → History → Call → History
+unfoldable pub addedByNumber : (number : Number) (history : History) (c : Call) → History
 addedByNumber zero h c = added h c
 addedByNumber (suc k) h c = h
 
 -- before the first opening that gives 0 there is no history
-unfoldable pub firstByNumber : ℕ → Settings → Option History
+unfoldable pub firstByNumber : (number : Number) (settings : Settings) → Option History
 firstByNumber zero s = some (begun s)
 firstByNumber (suc k) s = none
 
@@ -118,10 +120,10 @@ abbrev pub linksOf : List Stored → List Link
 linksOf ss = map (λ s. s .link) ss
 
 -- the window of n slides at the open slide k: slides s with s ≤ k and k < s + n
-abbrev pub inWindow : ℕ → ℕ → ℕ → Bool
+abbrev pub inWindow : (n k s : ℕ) → Bool
 inWindow n k s = leb s k && ltb k (s + n)
 
-abbrev pub windowAt : History → ℕ → List Stored
+abbrev pub windowAt : (history : History) (k : ℕ) → List Stored
 windowAt h k = ofSlides (inWindow (h .settings .n) k) (h .links)
 
 -- the links of the current window
@@ -129,7 +131,7 @@ abbrev pub windowOf : History → List Link
 windowOf h = linksOf (windowAt h (openSlideIn h))
 
 -- the links of slides l to k, the open slide
-abbrev pub linksSince : History → ℕ → List Link
+abbrev pub linksSince : (history : History) (l : ℕ) → List Link
 linksSince h l = linksOf (ofSlides (λ s. leb l s && leb s (openSlideIn h)) (h .links))
 
 -- chunk q holds slides qn to qn + n - 1

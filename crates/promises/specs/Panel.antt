@@ -2,6 +2,7 @@
 -- panel, so that they can be proved of ours and refuted for fakes.
 use Prim.Native.Nat.{ℕ}
 use mathlib.Core.List.{List, [], _∷_}
+use Rattle.numbers.specs.Kinds.{Cell}
 use Rattle.settings.specs.declared.Settings.{Settings}
 use Rattle.book_state.specs.declared.Book.{Book}
 use Rattle.book_joined.specs.declared.JoinedAnswer.{JoinedAnswer}
@@ -47,5 +48,5 @@ after p s [] = s
 after p s (c ∷ cs) = after p (stateOf (gives p s c)) cs
 
 -- what the chain call gives, for a chain buffer and two cells
-abbrev pub givesChain : Panel → State → List ℕ → ℕ → ℕ → ChainOutcome
+abbrev pub givesChain : (panel : Panel) (state : State) (chain : List Cell) (one other : Cell) → ChainOutcome
 givesChain p s chain one other = p .chainGives (s .book) (s .log) chain one other

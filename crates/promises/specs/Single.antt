@@ -1,4 +1,4 @@
--- Document 01, "What the contracts have to settle": for each public contract, two results that it allows are equal. A result is
+-- RULES 10: for each public contract, two results that it allows are equal. A result is
 -- what the call returns and what its lent buffers hold afterwards, on refusal too. Each line below quotes a contract.
 use Prim.Native.Nat.{ℕ}
 use mathlib.Core.Path.{_≡_}

@@ -1,4 +1,4 @@
--- The values that settings may have (document 01, "Time, slides, window" and "Cells and mounting").
+-- The values that settings may have (RULES 2 and 1).
 --
 -- Three names, equal today: what number 2 judges in a file that is read, what opening and the writer take, and what a
 -- book may hold. A rule that is for one of the three alone changes that name.
@@ -8,7 +8,7 @@ use lib.Dec.{eqb, leb}
 use Rattle.settings.specs.declared.Settings.{Settings}
 
 -- n is 1 to 16, B at least 1, and the mounting 1 or 2; mounting 0 means that it was never set
-abbrev pub inRange : ℕ → ℕ → ℕ → Bool
+abbrev pub inRange : (n b mounting : ℕ) → Bool
 inRange n b mounting = leb 1 n && leb n 16 && leb 1 b && (eqb mounting 1 || eqb mounting 2)
 
 -- number 2, or 0: what the reader judges

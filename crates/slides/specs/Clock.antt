@@ -1,20 +1,20 @@
--- The clock of a book, and what follows from it: slides, chunks, places (document 01, "Time, slides, window" and
--- "Chunks and the two forests").
+-- The clock of a book, and what follows from it: slides, chunks, places (RULES 2 and 3).
 --
 -- Every definition is total. A slide of 0 ticks and a window of 0 slides, which no book holds, give 0.
 use Prim.Native.Nat.{ℕ, _-_, _/_, _%_}
 use mathlib.Core.Bool.{Bool, cond, _&&_}
 use lib.Dec.{eqb, leb}
+use Rattle.numbers.specs.Kinds.{Chunk, Place, Slide, Tick}
 use Rattle.settings.specs.Settings.{heldInRange}
 use Rattle.settings.specs.declared.Settings.{Settings}
 use Rattle.slides.specs.declared.Clock.{Clock}
 
 -- a tick is not before the book's time
-unfoldable pub notBefore : Clock → ℕ → Bool
+unfoldable pub notBefore : (clock : Clock) (tick : Tick) → Bool
 notBefore clock tick = leb (clock .time) tick
 
 -- slide of a tick = (tick - T0) div B
-unfoldable pub slideOf : Clock → ℕ → ℕ
+unfoldable pub slideOf : (clock : Clock) (tick : Tick) → Slide
 slideOf clock tick = (tick - clock .t0) / clock .b
 
 -- the open slide k is the slide of the latest time
@@ -22,11 +22,11 @@ abbrev pub openSlide : Clock → ℕ
 openSlide clock = slideOf clock (clock .time)
 
 -- chunk q holds slides qn to qn + n - 1,
-abbrev pub chunkOf : Clock → ℕ → ℕ
+abbrev pub chunkOf : (clock : Clock) (slide : Slide) → Chunk
 chunkOf clock slide = slide / clock .n
 
 -- at places 0 to n - 1
-unfoldable pub placeOf : Clock → ℕ → ℕ
+unfoldable pub placeOf : (clock : Clock) (slide : Slide) → Place
 placeOf clock slide = cond (eqb (clock .n) 0) 0 (slide % clock .n)
 
 -- time starts at T0
@@ -34,7 +34,7 @@ abbrev pub started : Settings → Clock
 started s = record { t0 = s .t0; b = s .b; time = s .t0; n = s .n }
 
 -- a tick that is not before the time becomes the time; any other tick leaves the clock as it is
-unfoldable pub movedTo : Clock → ℕ → Clock
+unfoldable pub movedTo : (clock : Clock) (tick : Tick) → Clock
 movedTo clock tick = record { t0 = clock .t0; b = clock .b; time = cond (notBefore clock tick) tick (clock .time); n = clock .n }
 
 -- n and B are such as a book may hold (under either mounting: 1 stands for it), and the time is not before T0

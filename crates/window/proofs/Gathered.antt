@@ -11,7 +11,8 @@ use lib.Seq.{sets, sets-eq, take-at}
 use Rattle.graph.specs.Forest.{Labelled}
 use Rattle.book_state.specs.declared.Book.{Book}
 use Rattle.book_state.specs.Order.{inOrder}
-use Rattle.book_state.specs.Numbers.{has, logPlaces}
+use Rattle.numbers.specs.Checks.{has}
+use Rattle.book_state.specs.Numbers.{logPlaces}
 use Rattle.window.specs.Window.{windowLinks}
 use Rattle.window.specs.Gathered.{onesOf, othersOf, labelsOf, Put, linksOn, linksIn}
 use Rattle.window.proofs.WindowLinks.{window-few}

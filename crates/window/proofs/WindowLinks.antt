@@ -17,7 +17,8 @@ use Rattle.book_state.specs.declared.Book.{Book}
 use Rattle.book_state.specs.Arrays.{cells}
 use Rattle.book_state.specs.Log.{Readable, pairAt, labelled, linksAt}
 use Rattle.book_state.specs.Order.{inOrder}
-use Rattle.book_state.specs.Numbers.{has, logPlaces}
+use Rattle.numbers.specs.Checks.{has}
+use Rattle.book_state.specs.Numbers.{logPlaces}
 use Rattle.book_state.proofs.Checks.{readable}
 use Rattle.window.specs.Window as window
 use Rattle.window.specs.Window.{windowSlides, linksOfAge, slideLinks, linksFromAge, windowLinks}

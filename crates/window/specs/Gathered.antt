@@ -5,6 +5,7 @@ use mathlib.Core.Path.{_≡_}
 use mathlib.Core.List.{List, [], _∷_, map}
 use lib.ListN.{length, getD}
 use lib.Seq.{sets}
+use Rattle.numbers.specs.Kinds.{Labels}
 use Rattle.graph.specs.Forest.{Labelled}
 use Rattle.book_state.specs.Log.{labelled}
 
@@ -25,11 +26,11 @@ pub record Put (xs : List Labelled) (at : ℕ) (ones others labels : List ℕ) (
   pub third : labels′ ≡ sets labels at (labelsOf xs)
 
 -- so many links of three arrays, from a place on
-unfoldable pub linksOn : List ℕ → List ℕ → List ℕ → ℕ → ℕ → List Labelled
+unfoldable pub linksOn : (ones others : List ℕ) (labels : Labels) (i count : ℕ) → List Labelled
 linksOn ones others labels i zero = []
 linksOn ones others labels i (suc more) =
     labelled (getD labels i 0) (record { one = getD ones i 0; other = getD others i 0 }) ∷ linksOn ones others labels (suc i) more
 
 -- the first so many
-abbrev pub linksIn : List ℕ → List ℕ → List ℕ → ℕ → List Labelled
+abbrev pub linksIn : (ones others : List ℕ) (labels : Labels) (count : ℕ) → List Labelled
 linksIn ones others labels count = linksOn ones others labels 0 count

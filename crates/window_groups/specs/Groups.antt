@@ -1,9 +1,10 @@
--- The groups of a window's links (document 01, "The listing"): cells that the links chain together, the smallest cell of
+-- The groups of a window's links (RULES 8): cells that the links chain together, the smallest cell of
 -- each, how many there are, and the least hold over its pairs. Nothing here speaks of forests.
 use Prim.Native.Nat.{ℕ, suc, _-_, min}
 use mathlib.Core.Bool.{Bool, cond}
 use mathlib.Core.List.{List, [], _∷_, map}
 use lib.ListN.{length}
+use Rattle.numbers.specs.Kinds.{Cell, Log}
 use Rattle.graph.specs.Link.{chains}
 use Rattle.graph.specs.Forest.{Labelled}
 use Rattle.forest.specs.Arrays.{countFrom}
@@ -13,14 +14,14 @@ use Rattle.window.specs.Window.{windowLinks, linksFromLabel, highest}
 use Rattle.window_groups.specs.declared.Groups.{Groups}
 
 -- the cells of a list that pass a test
-unfoldable pub filter : (ℕ → Bool) → List ℕ → List ℕ
+unfoldable pub filter : (test : ℕ → Bool) (cells : List Cell) → List ℕ
 filter test [] = []
 filter test (c ∷ cs) =
     let rest : List ℕ = filter test cs in
     cond (test c) (c ∷ rest) rest
 
 -- the cells that the window's links chain with c, in order of their numbers
-abbrev pub groupOf : List Labelled → ℕ → List ℕ
+abbrev pub groupOf : (links : List Labelled) (cell : Cell) → List ℕ
 groupOf xs c = filter (chains (linksFromLabel 1 xs) c) (countFrom 0 cells)
 
 -- the first of the cells: the smallest, where they are in order of their numbers
@@ -29,16 +30,16 @@ smallest [] = 0
 smallest (c ∷ cs) = c
 
 -- for how many further closings two different cells stay joined
-abbrev pub holdOf : ℕ → List Labelled → ℕ → ℕ → ℕ
+abbrev pub holdOf : (n : ℕ) (links : List Labelled) (one other : Cell) → ℕ
 holdOf n xs one other = highest (suc n) xs one other - 1
 
 -- the least hold of c with another cell of the list; n, read as "always", where there is none
-unfoldable pub leastWith : ℕ → List Labelled → ℕ → List ℕ → ℕ
+unfoldable pub leastWith : (n : ℕ) (links : List Labelled) (cell : Cell) (others : List Cell) → ℕ
 leastWith n xs c [] = n
 leastWith n xs c (d ∷ ds) = min (holdOf n xs c d) (leastWith n xs c ds)
 
 -- the least hold over the pairs of a list
-unfoldable pub leastHold : ℕ → List Labelled → List ℕ → ℕ
+unfoldable pub leastHold : (n : ℕ) (links : List Labelled) (cells : List Cell) → ℕ
 leastHold n xs [] = n
 leastHold n xs (c ∷ cs) = min (leastWith n xs c cs) (leastHold n xs cs)
 
@@ -47,7 +48,7 @@ abbrev pub ofCells : (ℕ → ℕ) → List ℕ
 ofCells f = map f (countFrom 0 cells)
 
 -- of each cell its group's smallest cell, number of cells and least hold; and the links of the window, repeats counted
-unfoldable pub groupsOf : Book → List ℕ → Groups
+unfoldable pub groupsOf : (book : Book) (log : Log) → Groups
 groupsOf b log =
     let xs : List Labelled = windowLinks b log in
     record {

@@ -5,6 +5,7 @@ use mathlib.Core.Bool.{cond}
 use mathlib.Core.List.{List, [], _∷_, reverse}
 use lib.Dec.{eqb}
 use lib.ListN.{length, getD}
+use Rattle.numbers.specs.Kinds.{Cell, Label, Labels, Log, Parents}
 use Rattle.forest.specs.Arrays.{countFrom, parentIn, labelIn}
 use Rattle.book_state.specs.Arrays.{Arrays, cells, freshArrays, unitedAll}
 use Rattle.book_state.specs.declared.Book.{Book}
@@ -15,15 +16,15 @@ use Rattle.window_groups.specs.declared.Groups.{Groups}
 use Rattle.window_groups.specs.Groups.{filter, smallest, ofCells}
 
 -- the window's links united, newest slide first
-abbrev pub windowArrays : Book → List ℕ → Arrays
+abbrev pub windowArrays : (book : Book) (log : Log) → Arrays
 windowArrays b log = unitedAll freshArrays (reverse (windowLinks b log))
 
-unfoldable pub windowForestOf : Book → List ℕ → WindowForest
+unfoldable pub windowForestOf : (book : Book) (log : Log) → WindowForest
 windowForestOf b log =
     record { parent = windowArrays b log .parents; label = windowArrays b log .labels; count = length (windowLinks b log) }
 
 -- the root of a cell, in a list of the cells' roots
-abbrev pub rootIn : List ℕ → ℕ → ℕ
+abbrev pub rootIn : (roots : List ℕ) (cell : Cell) → ℕ
 rootIn roots c = getD roots c 0
 
 -- each root is a cell
@@ -31,7 +32,7 @@ abbrev pub Roots : List ℕ → Type 0
 Roots roots = (c : ℕ) → rootIn roots c < cells
 
 -- the cells whose root is r
-abbrev pub treeOf : (ℕ → ℕ) → ℕ → List ℕ
+abbrev pub treeOf : (root : Cell → Cell) (r : Cell) → List ℕ
 treeOf root r = filter (λ c. eqb (root c) r) (countFrom 0 cells)
 
 -- what f gives of each root's tree
@@ -39,16 +40,16 @@ abbrev pub ofTrees : (List ℕ → ℕ) → (ℕ → ℕ) → List ℕ
 ofTrees f root = ofCells (λ r. f (treeOf root r))
 
 -- the label of c's step, if that is smaller; a root has no step
-abbrev pub lower : ℕ → ℕ → ℕ → ℕ → ℕ
+abbrev pub lower : (cell : Cell) (parent : ℕ) (label : Label) (least : ℕ) → ℕ
 lower c parent label least = cond (eqb parent c) least (min label least)
 
 -- the smallest label of a parent step from one of the cells; top where there is none
-unfoldable pub leastLabel : ℕ → (ℕ → ℕ) → (ℕ → ℕ) → List ℕ → ℕ
+unfoldable pub leastLabel : (top : ℕ) (parent : Cell → Cell) (label : Cell → ℕ) (cells : List Cell) → ℕ
 leastLabel top parent label [] = top
 leastLabel top parent label (c ∷ cs) = lower c (parent c) (label c) (leastLabel top parent label cs)
 
 -- of each root's tree its smallest cell, number of cells and smallest label
-unfoldable pub talliesOf : List ℕ → List ℕ → List ℕ → ℕ → Tallies
+unfoldable pub talliesOf : (roots : List ℕ) (parents : Parents) (labels : Labels) (top : ℕ) → Tallies
 talliesOf roots ps ls top =
     record {
       first = ofTrees smallest (rootIn roots);
@@ -57,15 +58,15 @@ talliesOf roots ps ls top =
     }
 
 -- what a list tells at the root of a cell
-abbrev pub atRoot : List ℕ → List ℕ → ℕ → ℕ
+abbrev pub atRoot : (roots told : List ℕ) (cell : Cell) → ℕ
 atRoot roots told c = getD told (rootIn roots c) 0
 
 -- and that is 1 or more
-abbrev pub FromOne : List ℕ → List ℕ → Type 0
+abbrev pub FromOne : (roots told : List ℕ) → Type 0
 FromOne roots told = (c : ℕ) → c < cells → 1 ≤ atRoot roots told c
 
 -- of each cell what stands at its root; the hold is the smallest label, less 1
-unfoldable pub groupsAt : List ℕ → Tallies → ℕ → Groups
+unfoldable pub groupsAt : (roots : List ℕ) (tallies : Tallies) (links : ℕ) → Groups
 groupsAt roots t links =
     record {
       first = ofCells (atRoot roots (t .first));

@@ -7,7 +7,7 @@ use borrow.Author.Needs.{needs}
 use borrow.Author.Tests.{lt-ltb, le-ltb, not-true, not-false}
 use Rattle.book_state.specs.declared.Book.{Book}
 use Rattle.book_state.specs.Arrays.{cells}
-use Rattle.book_state.specs.Numbers.{firstOf}
+use Rattle.numbers.specs.Checks.{firstOf}
 use Rattle.book_state.specs.Order.{bookOf, inOrder}
 use Rattle.book_state.proofs.Checks.{Ordered, ordered}
 use Rattle.book_joined.specs.declared.JoinedAnswer.{JoinedAnswer}

@@ -13,7 +13,7 @@ use borrow.Author.Tests.{lt-ltb, le-ltb}
 use lib.Dec.{eqb}
 use Rattle.cells.specs.Cell.{cellsOver, cellAt, ringOf, sectorOf, mirrorSector, mirrorOver, lorryCellOver, mirror}
 
--- document 01: 0 becomes 63, 64 becomes 127, 1023 becomes 960
+-- RULES 1.4: 0 becomes 63, 64 becomes 127, 1023 becomes 960
 pub examples : map mirror (0 ∷ 64 ∷ 1023 ∷ []) ≡ 63 ∷ 127 ∷ 960 ∷ []
 unfolding mirrorOver
 examples = refl

@@ -7,10 +7,11 @@ use mathlib.Core.List.{List, [], _∷_}
 use native.Mathlib.Nat.{add-zero, zero-add, add-suc, suc-add, le-of-suc-le-suc, not-suc-le-zero}
 use lib.Dec.{T, eqb, eqb→eq}
 use lib.ListN.{length, getD}
+use Rattle.numbers.specs.Kinds.{Cell}
 use Rattle.cells.specs.Cell.{mirror, mirrorOver}
 
 -- each entry is the mirror of its cell, where the first entry is that of cell c
-unfoldable pub follows : ℕ → List ℕ → Bool
+unfoldable pub follows : (cell : Cell) (table : List ℕ) → Bool
 unfolding mirrorOver
 follows c [] = true
 follows c (x ∷ xs) = eqb x (mirror c) && follows (suc c) xs

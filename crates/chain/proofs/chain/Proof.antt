@@ -4,8 +4,9 @@ use mathlib.Core.Path.{_≡_, refl, sym, _∙_}
 use mathlib.Core.Bool.{true}
 use borrow.Author.Tests.{le-leb, not-true, not-false}
 use Rattle.book_state.specs.Order.{inOrder}
-use Rattle.book_state.specs.Numbers.{has, logPlaces}
-use Rattle.book_state.proofs.Checks.{has-length}
+use Rattle.numbers.specs.Checks.{has}
+use Rattle.book_state.specs.Numbers.{logPlaces}
+use Rattle.numbers.proofs.Checks.{has-length}
 use Rattle.chain.proofs.ChainCall.{refuses, out-of-order, short-log, short-chain, not-one, not-other}
 use borrow.Author.Needs.{needs}
 use Rattle.chain.proofs.chain.Statement.{statement}

@@ -3,8 +3,9 @@ use mathlib.Core.Path.{_≡_, sym, _∙_}
 use mathlib.Core.Bool.{true}
 use borrow.Author.Needs.{needs}
 use borrow.Author.Tests.{le-leb, lt-leb, not-true, not-false}
-use Rattle.book_state.specs.Numbers.{has, logPlaces}
-use Rattle.book_state.proofs.Checks.{passes, fails, last-passes, has-length}
+use Rattle.numbers.specs.Checks.{has}
+use Rattle.book_state.specs.Numbers.{logPlaces}
+use Rattle.numbers.proofs.Checks.{passes, fails, last-passes, has-length}
 use Rattle.book.proofs.numbers.clock_number.Statement.{statement}
 use Rattle.book.proofs.numbers.clock_number.Tie as tie
 

@@ -6,8 +6,10 @@ use borrow.Author.Needs.{needs}
 use borrow.Author.Tests.{lt-ltb, le-ltb, le-leb, lt-leb, not-true, not-false}
 use lib.Dec.{ltb}
 use Rattle.slides.specs.Clock.{notBefore}
-use Rattle.book_state.specs.Numbers.{firstOf, unless, has, logPlaces}
-use Rattle.book_state.proofs.Checks.{passes, fails, last-passes, both-cells, first-no-cell, second-no-cell, has-length}
+use Rattle.numbers.specs.Checks.{firstOf, unless, has}
+use Rattle.book_state.specs.Numbers.{logPlaces}
+use Rattle.numbers.proofs.Checks.{passes, fails, last-passes, has-length}
+use Rattle.book_state.proofs.Checks.{both-cells, first-no-cell, second-no-cell}
 use Rattle.book.specs.Calls.{linkNumberIn}
 use Rattle.book.proofs.numbers.link_number.Statement.{statement}
 use Rattle.book.proofs.numbers.link_number.Tie as tie

@@ -5,7 +5,7 @@ use borrow.Author.Needs.{needs}
 use borrow.Author.Tests.{le-leb, lt-leb}
 use Rattle.settings.specs.Settings.{takenNumber}
 use Rattle.book_state.specs.Numbers.{logPlaces}
-use Rattle.book_state.proofs.Checks.{first-found, first-next, fails, last-passes, has-length}
+use Rattle.numbers.proofs.Checks.{first-found, first-next, fails, last-passes, has-length}
 use Rattle.book.specs.Calls.{openingNumber}
 use Rattle.book.proofs.numbers.opening_number.Statement.{statement}
 use Rattle.book.proofs.numbers.opening_number.Tie as tie

@@ -8,7 +8,7 @@ use Rattle.slides.specs.Clock.{clockInRange}
 use Rattle.forest_check.specs.Sound.{every, within, soundOf}
 use Rattle.book_state.specs.Arrays.{stepLimit}
 use Rattle.book_state.specs.Order.{inOrderOf}
-use Rattle.book_state.proofs.Checks.{unless-passed, unless-failed}
+use Rattle.numbers.proofs.Checks.{unless-passed, unless-failed}
 use Rattle.book_state.proofs.order.in_order.Statement.{statement}
 use Rattle.book_state.proofs.order.in_order.Tie as tie
 
