@@ -1,5 +1,5 @@
--- The numbers of the table: where the first number that is not 0 is 0, each check is passed. So a book for which number 1
--- is not given is in order, test by test, and its log can be read.
+-- The checks that several calls make: two cells, and a book for which number 1 is not given. Such a book is in order, test by
+-- test, and its log can be read.
 use Prim.Native.Nat.{ℕ, zero, suc, _≤_, _<_}
 use mathlib.Core.Path.{_≡_, refl, sym, _∙_}
 use mathlib.Core.Bool.{Bool, true, false, _&&_, and-eq-true-iff}
@@ -7,7 +7,6 @@ use mathlib.Core.List.{List, [], _∷_}
 use native.Mathlib.Omega.{arith}
 use native.Mathlib.Decide.{decLt}
 use borrow.Author.Tests.{leb-true, lt-ltb, le-ltb}
-use lib.Dec.{leb, leb·zero, leb·suc-zero, leb·suc-suc}
 use lib.ListN.{length, getD, List·getD-eq-default}
 use Rattle.settings.specs.Settings.{heldInRange}
 use Rattle.slides.specs.Clock.{clockInRange}
@@ -17,7 +16,8 @@ use Rattle.forest_check.proofs.Every.{every-each, within-high}
 use Rattle.book_state.specs.declared.Book.{Book}
 use Rattle.book_state.specs.Arrays.{cells, stepLimit}
 use Rattle.book_state.specs.Log.{Readable}
-use Rattle.numbers.specs.Checks.{firstOf, unless, has}
+use Rattle.numbers.specs.Checks.{has}
+use Rattle.numbers.proofs.Checks.{has-length}
 use Rattle.book_state.specs.Numbers.{logPlaces, areCells}
 use Rattle.book_state.specs.Order.{inOrderOf, inOrder, neverOpened}
 
