@@ -1,5 +1,5 @@
 // Opening, link and clock over the fields of a book, each lent where it stands: no copy of the book is made.
-use super::numbers;
+use super::checks;
 use book_state::order;
 use book_state::spots;
 use settings::Settings;
@@ -45,7 +45,7 @@ pub fn link(
         backward_label,
     );
     let held = spots::stored(clock, counts, slides::slide(clock, tick));
-    let number = numbers::link_number(ordered, clock, held, log, tick, one, other);
+    let number = checks::link_number(ordered, clock, held, log, tick, one, other);
     if number != 0 {
         return FieldsAnswer {
             clock,
@@ -131,7 +131,7 @@ pub fn clock(
         backward_size,
         backward_label,
     );
-    let number = numbers::clock_number(ordered, clock, log, tick);
+    let number = checks::clock_number(ordered, clock, log, tick);
     if number != 0 {
         return FieldsAnswer {
             clock,
@@ -172,7 +172,7 @@ pub fn opening(
 ) -> FieldsAnswer
     ensures { λ r. ⌜ GivesFields (openingOf (bookOf clock mounting (now (counts .entry)) (now («forward_parent» .entry)) (now («forward_size» .entry)) (now («backward_parent» .entry)) (now («backward_size» .entry)) (now («backward_label» .entry))) (now (log .entry)) s) r (now (counts .exit)) (now («forward_parent» .exit)) (now («forward_size» .exit)) (now («backward_parent» .exit)) (now («backward_size» .exit)) (now («backward_label» .exit)) (now (log .exit)) ⌝ }
 {
-    let number = numbers::opening_number(s, log);
+    let number = checks::opening_number(s, log);
     if number != 0 {
         return FieldsAnswer {
             clock,

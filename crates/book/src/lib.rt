@@ -1,7 +1,7 @@
 // The calls that change the book of links and its log: opening, link and clock. Each asks for its number first; where that
 // is 0 its effects follow, and else nothing changes.
 pub mod fields; // fields.rt: the same over the fields of a book, each lent where it stands
-mod numbers; // numbers.rt: the number of each call, the first check that fails
+mod checks; // checks.rt: the number of each call, the first check that fails
 
 use book_state::Book;
 use settings::Settings;

@@ -6,8 +6,8 @@ use borrow.Author.Tests.{le-leb, lt-leb, not-true, not-false}
 use Rattle.numbers.specs.Checks.{has}
 use Rattle.book_state.specs.Numbers.{logPlaces}
 use Rattle.numbers.proofs.Checks.{passes, fails, last-passes, has-length}
-use Rattle.book.proofs.numbers.clock_number.Statement.{statement}
-use Rattle.book.proofs.numbers.clock_number.Tie as tie
+use Rattle.book.proofs.checks.clock_number.Statement.{statement}
+use Rattle.book.proofs.checks.clock_number.Tie as tie
 
 -- the checks that were passed, at the place where the last of them was
 ordered : (c : tie.Else1) → c .before .before .args .ordered ≡ true

@@ -11,8 +11,8 @@ use Rattle.book_state.specs.Numbers.{logPlaces}
 use Rattle.numbers.proofs.Checks.{passes, fails, last-passes, has-length}
 use Rattle.book_state.proofs.Checks.{both-cells, first-no-cell, second-no-cell}
 use Rattle.book.specs.Calls.{linkNumberIn}
-use Rattle.book.proofs.numbers.link_number.Statement.{statement}
-use Rattle.book.proofs.numbers.link_number.Tie as tie
+use Rattle.book.proofs.checks.link_number.Statement.{statement}
+use Rattle.book.proofs.checks.link_number.Tie as tie
 
 -- the checks that were passed, at the place where the last of them was
 ordered : (c : tie.Else1) → c .before .before .args .ordered ≡ true

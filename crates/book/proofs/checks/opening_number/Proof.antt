@@ -7,8 +7,8 @@ use Rattle.settings.specs.Settings.{takenNumber}
 use Rattle.book_state.specs.Numbers.{logPlaces}
 use Rattle.numbers.proofs.Checks.{first-found, first-next, fails, last-passes, has-length}
 use Rattle.book.specs.Calls.{openingNumber}
-use Rattle.book.proofs.numbers.opening_number.Statement.{statement}
-use Rattle.book.proofs.numbers.opening_number.Tie as tie
+use Rattle.book.proofs.checks.opening_number.Statement.{statement}
+use Rattle.book.proofs.checks.opening_number.Tie as tie
 
 judge-requires : tie.Need-judge-requires
 judge-requires c κs = search needs
