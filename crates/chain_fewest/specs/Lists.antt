@@ -1,7 +1,7 @@
 -- Links as two lists of cells: link i joins the i-th cell of the one list with the i-th of the other. Each of the two can
 -- be read from its own cells to those across, so all here is said of a list `from` and a list `to`, and used twice.
 --
--- The links of each cell as a list (the crate lists): a link is an entry, and its cell in `from` is the entry's key.
+-- The links of each cell as a list (the crate buckets): a link is an entry, and its cell in `from` is the entry's key.
 use Prim.Native.Nat.{ℕ, _<_}
 use mathlib.Core.Path.{_≡_}
 use mathlib.Core.List.{List, [], _∷_}

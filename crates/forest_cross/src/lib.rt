@@ -1,6 +1,6 @@
 // Crossing (RULES 4): from a group of the backward forest to each forward group that shares a cell with it, and from
 // there back again, until no new group is met. A cell's key is the root of its tree; the cells of one key are a group, and are
-// listed (crate lists).
+// listed (crate buckets).
 use buckets::entry_at;
 use buckets::list_entries;
 ghost use Prim.Native.Nat.{_<_};

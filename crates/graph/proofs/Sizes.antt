@@ -1,4 +1,4 @@
--- The sizes of a forest, and that hanging a root under one that is as large or larger keeps them right (`hung-grown`).
+-- The sizes of a forest, and that hanging a root under one that is as large or larger keeps them right (`merged-grown`).
 --
 -- The sizes of the roots below 2 ^ k add up to 2 ^ k, since a hung root's size goes to its top. So no size is above 2 ^ k.
 -- A tree that is hung is at most half of what its top has then, so each step doubles the size.

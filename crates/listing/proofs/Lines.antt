@@ -1,4 +1,4 @@
--- The lines of the groups, one after the other. The arrays that the crate groups gives tell the lines that the definition asks for,
+-- The lines of the groups, one after the other. The arrays that the crate window_groups gives tell the lines that the definition asks for,
 -- since they hold of each cell what the definition takes from its group; and a line has at most 19 bytes.
 use Prim.Native.Nat.{ℕ, zero, suc, _+_, _≤_, _<_}
 use mathlib.Core.Path.{_≡_, refl, ap, _∙_}

@@ -1,5 +1,5 @@
 -- Demand 1 of files: with a refusal the reader's other fields are 0 and the lent buffers of the writer and of the listing are
--- unchanged (the first two by the crate linkfile); and where playing stops at a record, the book and its log are those that
+-- unchanged (the first two by the crate file); and where playing stops at a record, the book and its log are those that
 -- the records before it have left, since a refused link changes nothing.
 use Prim.Native.Nat.{ℕ, zero, suc, _+_}
 use mathlib.Core.Path.{_≡_, refl, sym}

@@ -2,7 +2,7 @@
 --
 -- It goes to the front of the history's links, with the open slide. The count of that slide's spot grows by one, and its pair
 -- stands in the log after those that were there; every other live slide has another spot, and neither count nor links of it
--- change. The forward forest has one link more, and so have its lists (the crate uniting); the backward forest is as before,
+-- change. The forward forest has one link more, and so have its lists (the crate forest_unite); the backward forest is as before,
 -- since the open chunk is not the one before it.
 use Prim.Native.Nat.{ℕ, _+_, _%_, _≤_, _<_}
 use mathlib.Core.Path.{_≡_, refl, sym, _∙_, ap, fun-ext}

@@ -1,4 +1,4 @@
--- The parent steps of a forest of links chain the cells that the links chain (by the crate joined's law on parent steps); and of
+-- The parent steps of a forest of links chain the cells that the links chain (by the crate book_joined's law on parent steps); and of
 -- the steps of two forests together, either part may be replaced by links that chain the same cells.
 use Prim.Native.Nat.{ℕ, _^_, _≤_}
 use mathlib.Core.Path.{_≡_}

@@ -1,4 +1,4 @@
--- `joined::across` meets its contract: the keys are the roots of the two forests, so the crossing decides; and a cell
+-- `book_joined::across` meets its contract: the keys are the roots of the two forests, so the crossing decides; and a cell
 -- that stands alone is chained with itself alone.
 use mathlib.Core.Path.{_≡_, sym, _∙_, subst⁻¹}
 use borrow.Author.Needs.{needs}

@@ -1,4 +1,4 @@
--- `joined::alone_in` meets its contract: a pass over the cells, with their parents at the cut, that stops at one that is
+-- `book_joined::alone_in` meets its contract: a pass over the cells, with their parents at the cut, that stops at one that is
 -- not apart.
 use Prim.Native.Nat.{_-_}
 use mathlib.Core.Path.{_≡_, refl, sym, ap, _∙_}

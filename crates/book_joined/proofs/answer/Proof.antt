@@ -1,4 +1,4 @@
--- `joined::answer` meets its contract: the four walks give the steps on every way out; equal roots in one forest are
+-- `book_joined::answer` meets its contract: the four walks give the steps on every way out; equal roots in one forest are
 -- chained by its steps; and the crossing answers the rest.
 use Prim.Native.Nat.{ℕ, _+_, _≤_}
 use mathlib.Core.Path.{_≡_, sym, ap, _∙_, subst⁻¹}

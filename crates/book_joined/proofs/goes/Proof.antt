@@ -1,4 +1,4 @@
--- `joined::goes` meets its contract: one step of a walk tells.
+-- `book_joined::goes` meets its contract: one step of a walk tells.
 use mathlib.Core.Path.{_≡_, ap, _∙_}
 use mathlib.Core.Bool.{not}
 use lib.Dec.{eqb}

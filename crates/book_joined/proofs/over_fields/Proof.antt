@@ -1,4 +1,4 @@
--- `joined::lent` meets its contract: the checks come in the order 1, 3, and a book in order has what the answer needs.
+-- `book_joined::over_fields` meets its contract: the checks come in the order 1, 3, and a book in order has what the answer needs.
 use Prim.Native.Nat.{ℕ, _≤_, _<_}
 use mathlib.Core.Path.{_≡_, sym, ap, _∙_}
 use mathlib.Core.Bool.{true, false}

@@ -1,4 +1,4 @@
--- `state::never_opened` meets its contract: every number is 0.
+-- `book_state::never_opened` meets its contract: every number is 0.
 use mathlib.Core.Path.{refl}
 use Rattle.book_state.specs.Order.{neverOpened}
 use Rattle.book_state.proofs.never_opened.Statement.{statement}

@@ -1,4 +1,4 @@
--- `chunks::move_to` meets its contract: each way out is one case of the step (proofs/Moves.antt).
+-- `book_time::move_to` meets its contract: each way out is one case of the step (proofs/Moves.antt).
 use Prim.Native.Nat.{ℕ, _+_, _<_}
 use mathlib.Core.Path.{_≡_, sym, _∙_, ap}
 use native.Mathlib.Omega.{arith}

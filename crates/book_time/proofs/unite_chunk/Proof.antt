@@ -1,4 +1,4 @@
--- `chunks::unite_chunk` meets its contract: the places from `place` on are united (proofs/Scan.antt), down to place 1.
+-- `book_time::unite_chunk` meets its contract: the places from `place` on are united (proofs/Scan.antt), down to place 1.
 use Prim.Native.Nat.{_+_, _-_, _*_, _≤_}
 use mathlib.Core.Path.{refl}
 use native.Mathlib.Omega.{arith}

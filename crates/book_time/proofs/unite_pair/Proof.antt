@@ -1,4 +1,4 @@
--- `chunks::unite_pair` meets its contract: a pair of cells is one link, and any other pair is none.
+-- `book_time::unite_pair` meets its contract: a pair of cells is one link, and any other pair is none.
 use borrow.Author.Needs.{needs}
 use borrow.Author.Tests.{lt-ltb, le-ltb}
 use Rattle.book_state.specs.Arrays.{united, unitedAll}

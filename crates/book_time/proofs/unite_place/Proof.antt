@@ -1,4 +1,4 @@
--- `chunks::unite_place` meets its contract: the links from `left` on are united (proofs/Scan.antt).
+-- `book_time::unite_place` meets its contract: the links from `left` on are united (proofs/Scan.antt).
 use mathlib.Core.Path.{refl}
 use native.Mathlib.Omega.{arith}
 use borrow.Author.Needs.{needs}

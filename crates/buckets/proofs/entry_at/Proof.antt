@@ -1,4 +1,4 @@
--- `lists::number_at` meets its contract: what stands in a list of 16-bit numbers fits.
+-- `buckets::entry_at` meets its contract: what stands in a list of 16-bit numbers fits.
 use borrow.Author.Needs.{needs}
 use native.Mathlib.Omega.{arith}
 use Rattle.buckets.proofs.entry_at.Statement.{statement}

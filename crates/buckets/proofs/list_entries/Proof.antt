@@ -1,4 +1,4 @@
--- `lists::list_entries` meets its contract. The loop's invariant: the entries from `entry` on are listed; a turn lists one entry
+-- `buckets::list_entries` meets its contract. The loop's invariant: the entries from `entry` on are listed; a turn lists one entry
 -- more (`list-turn`). The measure is `entry`.
 use Prim.Native.Nat.{_≤_, _<_}
 use mathlib.Core.Path.{_≡_, refl}

@@ -1,4 +1,4 @@
--- `trail::chain` meets its contract: the checks come in the order 1, 6, 3 (proofs/ChainCall.antt), and 7 and 8 are left to the
+-- `chain::chain` meets its contract: the checks come in the order 1, 6, 3 (proofs/ChainCall.antt), and 7 and 8 are left to the
 -- answer.
 use mathlib.Core.Path.{_≡_, refl, sym, _∙_}
 use mathlib.Core.Bool.{true}

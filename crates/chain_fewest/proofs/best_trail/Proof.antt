@@ -1,4 +1,4 @@
--- `fewest::best_trail` meets its contract: the lists begin empty (`none-listed`), and then hold the links of both sides.
+-- `chain_fewest::best_trail` meets its contract: the lists begin empty (`none-listed`), and then hold the links of both sides.
 use mathlib.Core.Path.{refl, sym, _∙_}
 use native.Mathlib.Omega.{arith}
 use borrow.Author.Needs.{needs}

@@ -1,4 +1,4 @@
--- `fewest::trail_over` meets its contract: the numbers begin unknown, and what is given follows from them (`BestTrail`).
+-- `chain_fewest::trail_over` meets its contract: the numbers begin unknown, and what is given follows from them (`BestTrail`).
 use Prim.Native.Nat.{ℕ}
 use borrow.Author.Needs.{needs}
 use lib.ListN.{length-replicate}

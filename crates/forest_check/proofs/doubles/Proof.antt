@@ -1,4 +1,4 @@
--- `soundness::doubles` meets its contract: a pass (proofs/Every.antt), whose flag is whether the most that a size above lacks is 0
+-- `forest_check::doubles` meets its contract: a pass (proofs/Every.antt), whose flag is whether the most that a size above lacks is 0
 -- (proofs/Extremes.antt, proofs/Doubling.antt).
 use Prim.Native.Nat.{_+_, _-_}
 use borrow.Author.Needs.{needs}

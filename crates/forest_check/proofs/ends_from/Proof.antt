@@ -1,4 +1,4 @@
--- `soundness::ends_from` meets its contract: the loop of a walk (proofs/Climb.antt), and whether its root is one.
+-- `forest_check::ends_from` meets its contract: the loop of a walk (proofs/Climb.antt), and whether its root is one.
 use Prim.Native.Nat.{_-_}
 use borrow.Author.Tests.{eq-eqb}
 use mathlib.Core.Path.{sym, ap, _∙_}

@@ -1,4 +1,4 @@
--- `soundness::labels_within` meets its contract: a pass with a flag (proofs/Every.antt).
+-- `forest_check::labels_within` meets its contract: a pass with a flag (proofs/Every.antt).
 use Prim.Native.Nat.{_-_}
 use borrow.Author.Needs.{needs}
 use borrow.Author.Tests.{le-leb, lt-leb}

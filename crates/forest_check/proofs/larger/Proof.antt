@@ -1,4 +1,4 @@
--- `soundness::larger` meets its contract: the test decides.
+-- `forest_check::larger` meets its contract: the test decides.
 use borrow.Author.Tests.{lt-ltb, le-ltb}
 use Rattle.forest_check.proofs.larger.Statement.{statement}
 use Rattle.forest_check.proofs.larger.Tie as tie

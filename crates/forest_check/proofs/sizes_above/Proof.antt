@@ -1,4 +1,4 @@
--- `soundness::sizes_above` meets its contract: entry c is filled with the size of c's parent, which is a cell.
+-- `forest_check::sizes_above` meets its contract: entry c is filled with the size of c's parent, which is a cell.
 use Prim.Native.Nat.{_-_}
 use borrow.Author.Needs.{needs}
 use mathlib.Core.Path.{refl}

@@ -1,4 +1,4 @@
--- `soundness::smaller` meets its contract: the test decides.
+-- `forest_check::smaller` meets its contract: the test decides.
 use borrow.Author.Tests.{lt-ltb, le-ltb}
 use Rattle.forest_check.proofs.smaller.Statement.{statement}
 use Rattle.forest_check.proofs.smaller.Tie as tie

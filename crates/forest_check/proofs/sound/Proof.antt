@@ -1,4 +1,4 @@
--- `soundness::sound` meets its contract: each test is one of the definition's. Where the sizes double, every walk
+-- `forest_check::sound` meets its contract: each test is one of the definition's. Where the sizes double, every walk
 -- ends (proofs/Doubling.antt); otherwise the walks decide, as the definition says.
 use Prim.Native.Nat.{_+_, _^_, _≤_}
 use borrow.Author.Tests.{eq-eqb, ne-eqb, not-true, not-false, leb-true}

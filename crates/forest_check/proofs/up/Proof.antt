@@ -1,4 +1,4 @@
--- `soundness::up` meets its contract: within the slice the default of a read does not matter; beyond it, it is the cell.
+-- `forest_check::up` meets its contract: within the slice the default of a read does not matter; beyond it, it is the cell.
 use borrow.Author.Needs.{needs}
 use mathlib.Core.Path.{sym}
 use native.Mathlib.Omega.{arith}

@@ -1,4 +1,4 @@
--- `soundness::walks_end` meets its contract: a pass over the cells (proofs/Every.antt) that stops at a walk that does not end.
+-- `forest_check::walks_end` meets its contract: a pass over the cells (proofs/Every.antt) that stops at a walk that does not end.
 use Prim.Native.Nat.{_-_}
 use borrow.Author.Tests.{not-true, not-false}
 use mathlib.Core.Path.{refl, sym, _∙_}

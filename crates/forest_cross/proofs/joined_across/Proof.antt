@@ -1,4 +1,4 @@
--- `crossing::joined_across` meets its contract: the lists begin empty and the marks at 0, so what the crossing leaves at the
+-- `forest_cross::joined_across` meets its contract: the lists begin empty and the marks at 0, so what the crossing leaves at the
 -- second cell's mark is the answer (`mark-answers`).
 use borrow.Author.Needs.{needs}
 use Prim.Native.Nat.{_<_}

@@ -1,4 +1,4 @@
--- `uniting::hang_label` meets its contract: the store where the roots are apart.
+-- `forest_unite::merge_labels` meets its contract: the store where the roots are apart.
 use borrow.Author.Needs.{needs}
 use Rattle.forest_unite.proofs.merge_labels.Statement.{statement}
 use Rattle.forest_unite.proofs.merge_labels.Tie as tie

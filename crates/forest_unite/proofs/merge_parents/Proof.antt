@@ -1,4 +1,4 @@
--- `uniting::hang_parent` meets its contract: the store where the roots are apart.
+-- `forest_unite::merge_parents` meets its contract: the store where the roots are apart.
 use borrow.Author.Needs.{needs}
 use Rattle.forest_unite.proofs.merge_parents.Statement.{statement}
 use Rattle.forest_unite.proofs.merge_parents.Tie as tie

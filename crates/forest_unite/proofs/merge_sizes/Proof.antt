@@ -1,4 +1,4 @@
--- `uniting::hang_size` meets its contract: the store where the roots are apart.
+-- `forest_unite::merge_sizes` meets its contract: the store where the roots are apart.
 use borrow.Author.Needs.{needs}
 use Rattle.forest_unite.proofs.merge_sizes.Statement.{statement}
 use Rattle.forest_unite.proofs.merge_sizes.Tie as tie

@@ -1,4 +1,4 @@
--- `uniting::unite` meets its contract: where the roots are one nothing hangs; else what each store leaves, for the hang that was read
+-- `forest_unite::unite` meets its contract: where the roots are one nothing hangs; else what each store leaves, for the hang that was read
 -- first.
 use mathlib.Core.Path.{_≡_, refl, sym, ap, _∙_}
 use borrow.Author.Needs.{needs}

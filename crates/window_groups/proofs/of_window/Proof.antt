@@ -1,4 +1,4 @@
--- `groups::of_window` meets its contract: at each cell's root the tallies tell what its tree gives, and its tree is its group.
+-- `window_groups::of_window` meets its contract: at each cell's root the tallies tell what its tree gives, and its tree is its group.
 use mathlib.Core.Path.{_∙_}
 use borrow.Author.Needs.{needs}
 use Rattle.window_groups.specs.Trees.{Roots}

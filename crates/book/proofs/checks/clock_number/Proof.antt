@@ -1,4 +1,4 @@
--- `book::numbers::clock_number` meets its contract: each test is one check of the definition's.
+-- `book::checks::clock_number` meets its contract: each test is one check of the definition's.
 use mathlib.Core.Path.{_≡_, sym, _∙_}
 use mathlib.Core.Bool.{true}
 use borrow.Author.Needs.{needs}

@@ -1,4 +1,4 @@
--- `book::numbers::link_number` meets its contract: each test is one check of the definition's, two of them that of number 3.
+-- `book::checks::link_number` meets its contract: each test is one check of the definition's, two of them that of number 3.
 use mathlib.Core.Path.{_≡_, sym, _∙_}
 use mathlib.Core.Bool.{true}
 use mathlib.Core.List.{[], _∷_}

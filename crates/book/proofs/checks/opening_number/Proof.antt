@@ -1,4 +1,4 @@
--- `book::numbers::opening_number` meets its contract: each test is one check of the definition's.
+-- `book::checks::opening_number` meets its contract: each test is one check of the definition's.
 use mathlib.Core.Path.{_≡_, sym, _∙_}
 use mathlib.Core.List.{[]}
 use borrow.Author.Needs.{needs}

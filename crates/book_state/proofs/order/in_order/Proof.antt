@@ -1,4 +1,4 @@
--- `state::order::in_order` meets its contract: each test is one of the definition's.
+-- `book_state::order::in_order` meets its contract: each test is one of the definition's.
 use mathlib.Core.Path.{_≡_, sym, _∙_}
 use mathlib.Core.Bool.{true, false}
 use borrow.Author.Needs.{needs}

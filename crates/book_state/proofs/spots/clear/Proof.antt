@@ -1,4 +1,4 @@
--- `state::spots::clear` meets its contract: the places before i are 0, and the others as they were.
+-- `book_state::spots::clear` meets its contract: the places before i are 0, and the others as they were.
 use Prim.Native.Nat.{_-_, _≤_}
 use mathlib.Core.Path.{_≡_, refl}
 use mathlib.Core.List.{_++_}

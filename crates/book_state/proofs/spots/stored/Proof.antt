@@ -1,4 +1,4 @@
--- `state::spots::stored` meets its contract: the count at the slide's spot where the slide is of the open chunk, and else 0.
+-- `book_state::spots::stored` meets its contract: the count at the slide's spot where the slide is of the open chunk, and else 0.
 use Prim.Native.Nat.{ℕ}
 use mathlib.Core.Path.{_≡_, sym, _∙_, ap}
 use borrow.Author.Needs.{needs}

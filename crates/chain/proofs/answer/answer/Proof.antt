@@ -1,4 +1,4 @@
--- `trail::answer::answer` meets its contract: the window's links are gathered, the label is theirs, and the trail over those
+-- `chain::answer::answer` meets its contract: the window's links are gathered, the label is theirs, and the trail over those
 -- from the label on is the chain (proofs/ChainCall.antt).
 use Prim.Native.Nat.{_<_}
 use mathlib.Core.Path.{_≡_}

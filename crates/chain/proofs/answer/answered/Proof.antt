@@ -1,4 +1,4 @@
--- `trail::answer::answered` meets its contract: no sum or difference leaves its width, and the rest is the record itself.
+-- `chain::answer::answered` meets its contract: no sum or difference leaves its width, and the rest is the record itself.
 use mathlib.Core.Path.{refl}
 use borrow.Author.Needs.{needs}
 use Rattle.chain.proofs.answer.answered.Statement.{statement}

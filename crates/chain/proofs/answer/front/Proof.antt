@@ -1,4 +1,4 @@
--- `trail::answer::front` meets its contract: the labels before place i are j or more (proofs/Front.antt).
+-- `chain::answer::front` meets its contract: the labels before place i are j or more (proofs/Front.antt).
 use Prim.Native.Nat.{_-_}
 use native.Mathlib.Omega.{arith}
 use Rattle.chain.proofs.Front.{Passed, passed-none, passed-more, passed-stop, passed-all}

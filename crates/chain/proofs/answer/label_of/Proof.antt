@@ -1,4 +1,4 @@
--- `trail::answer::label_of` meets its contract: the forest of the links is grown from a fresh one, and the highest cut at which
+-- `chain::answer::label_of` meets its contract: the forest of the links is grown from a fresh one, and the highest cut at which
 -- two walks in it end at one root is the highest label (window, WindowForest).
 use mathlib.Core.Path.{_≡_, sym, _∙_}
 use mathlib.Core.List.{List, reverse}

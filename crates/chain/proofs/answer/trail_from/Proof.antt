@@ -1,4 +1,4 @@
--- `trail::answer::trail_from` meets its contract: what `front` counts fits in both sides, and the best trail is over these links.
+-- `chain::answer::trail_from` meets its contract: what `front` counts fits in both sides, and the best trail is over these links.
 use Rattle.chain.proofs.Front.{front-fits}
 use borrow.Author.Needs.{needs}
 use Rattle.chain.proofs.answer.trail_from.Statement.{statement}

@@ -1,4 +1,4 @@
--- `fewest::descent::descend` meets its contract. The loop's invariant: the best trail is what is written and then the best
+-- `chain_fewest::descent::descend` meets its contract. The loop's invariant: the best trail is what is written and then the best
 -- trail from the cell (`Descending`). The measure is the cell's number.
 use native.Mathlib.Omega.{arith}
 use lib.ListN.{getD, length-set}

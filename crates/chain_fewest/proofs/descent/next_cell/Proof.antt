@@ -1,4 +1,4 @@
--- `fewest::descent::next_cell` meets its contract: what is found from the one side and then from the other is the smallest
+-- `chain_fewest::descent::next_cell` meets its contract: what is found from the one side and then from the other is the smallest
 -- from either (`next-found`).
 use Prim.Native.Nat.{_-_}
 use mathlib.Core.Path.{ap}

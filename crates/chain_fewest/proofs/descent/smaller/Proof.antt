@@ -1,4 +1,4 @@
--- `fewest::descent::smaller` meets its contract, in both arms.
+-- `chain_fewest::descent::smaller` meets its contract, in both arms.
 use borrow.Author.Needs.{needs}
 use Rattle.chain_fewest.proofs.descent.smaller.Statement.{statement}
 use Rattle.chain_fewest.proofs.descent.smaller.Tie as tie

@@ -1,4 +1,4 @@
--- `fewest::descent::smallest_across` meets its contract. The loop's invariant: what is found is the smallest so far
+-- `chain_fewest::descent::smallest_across` meets its contract. The loop's invariant: what is found is the smallest so far
 -- (`Finding`). The measure is what is left of the links.
 use Prim.Native.Nat.{_-_}
 use mathlib.Core.Path.{_∙_, sym}

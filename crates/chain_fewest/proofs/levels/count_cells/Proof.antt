@@ -1,4 +1,4 @@
--- `fewest::levels::count_cells` meets its contract: the search begins at the second cell (`search-begins`), each turn keeps
+-- `chain_fewest::levels::count_cells` meets its contract: the search begins at the second cell (`search-begins`), each turn keeps
 -- it (`counting-turns`), and at its end the numbers are those of the best trails (`counting-ends`). The measure is what is
 -- left of the queue's places.
 use Prim.Native.Nat.{_-_}

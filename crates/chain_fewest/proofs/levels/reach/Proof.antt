@@ -1,4 +1,4 @@
--- `fewest::levels::reach` meets its contract. The loop's invariant: the search holds, and the cells across the links that
+-- `chain_fewest::levels::reach` meets its contract. The loop's invariant: the search holds, and the cells across the links that
 -- are passed have their numbers (`Reaching`, `Passed`). The measure is what is left of the links.
 use Prim.Native.Nat.{_≤_, _<_, _-_, _+_}
 use mathlib.Core.Path.{refl}

@@ -1,4 +1,4 @@
--- `uniting::roots::goes_under` meets its contract: the sizes decide, and on equal sizes the numbers.
+-- `forest_unite::roots::goes_under` meets its contract: the sizes decide, and on equal sizes the numbers.
 use borrow.Author.Tests.{lt-ltb, le-ltb, eq-eqb, ne-eqb}
 use native.Mathlib.Omega.{arith}
 use Rattle.forest_unite.proofs.roots.goes_under.Statement.{statement}

@@ -1,4 +1,4 @@
--- `uniting::roots::hang` meets its contract: the two walks give the roots.
+-- `forest_unite::roots::merge_of` meets its contract: the two walks give the roots.
 use Rattle.forest_unite.proofs.roots.merge_of.Statement.{statement}
 use Rattle.forest_unite.proofs.roots.merge_of.Tie as tie
 

@@ -1,4 +1,4 @@
--- `uniting::roots::hang_roots` meets its contract: each test decides the definition's case.
+-- `forest_unite::roots::merge_of_roots` meets its contract: each test decides the definition's case.
 use borrow.Author.Tests.{eq-eqb, ne-eqb}
 use mathlib.Core.Path.{sym, _∙_}
 use Rattle.forest_unite.proofs.roots.merge_of_roots.Statement.{statement}

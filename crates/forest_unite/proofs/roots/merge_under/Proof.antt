@@ -1,4 +1,4 @@
--- `uniting::roots::hang_under` meets its contract: the sum of the two sizes, modulo 2 ^ 16.
+-- `forest_unite::roots::merge_under` meets its contract: the sum of the two sizes, modulo 2 ^ 16.
 use Rattle.forest_unite.proofs.roots.merge_under.Statement.{statement}
 use Rattle.forest_unite.proofs.roots.merge_under.Tie as tie
 

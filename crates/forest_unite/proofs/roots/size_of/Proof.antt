@@ -1,4 +1,4 @@
--- `uniting::roots::size_of` meets its contract: within the slice the default of a read does not matter; beyond it, it is 1.
+-- `forest_unite::roots::size_of` meets its contract: within the slice the default of a read does not matter; beyond it, it is 1.
 use borrow.Author.Needs.{needs}
 use mathlib.Core.Path.{sym}
 use lib.ListN.{List·getD-eq-default}

@@ -1,4 +1,4 @@
--- `groups::trees::at_roots` meets its contract: three arrays are filled from the front, entry c with what stands at c's root.
+-- `window_groups::trees::at_roots` meets its contract: three arrays are filled from the front, entry c with what stands at c's root.
 use Prim.Native.Nat.{ℕ, _-_, _<_}
 use mathlib.Core.Path.{_≡_, refl}
 use mathlib.Core.List.{List}

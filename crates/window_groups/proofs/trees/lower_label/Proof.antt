@@ -1,4 +1,4 @@
--- `groups::trees::lower_label` meets its contract, test by test.
+-- `window_groups::trees::lower_label` meets its contract, test by test.
 use native.Mathlib.Omega.{arith}
 use borrow.Author.Tests.{eq-eqb, ne-eqb}
 use Rattle.window_groups.proofs.trees.lower_label.Statement.{statement}

@@ -1,4 +1,4 @@
--- `groups::trees::tally` meets its contract: what is stored of a tree last is its smallest cell, each cell adds 1 to its tree's
+-- `window_groups::trees::tally` meets its contract: what is stored of a tree last is its smallest cell, each cell adds 1 to its tree's
 -- number, and its step lowers the tree's label, if its own is smaller.
 use Prim.Native.Nat.{ℕ, suc, _-_, _≤_, _<_}
 use mathlib.Core.Path.{_≡_, refl, ap, ap₂, _∙_}

@@ -1,4 +1,4 @@
--- `groups::trees::window_forest` meets its contract: the window's links, gathered into three arrays and united from there
+-- `window_groups::trees::window_forest` meets its contract: the window's links, gathered into three arrays and united from there
 -- (proofs/Gathering.antt).
 use mathlib.Core.Path.{refl, sym}
 use native.Mathlib.Omega.{arith}
