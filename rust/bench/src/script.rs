@@ -95,17 +95,13 @@ impl Script {
         }
     }
 
-    fn any_cell(&mut self) -> u16 {
-        self.dice.below(1024) as u16
-    }
-
     pub fn any_pair(&mut self) -> Pair {
-        (self.any_cell(), self.any_cell())
+        (self.dice.cell() as u16, self.dice.cell() as u16)
     }
 
     pub fn touching_pair(&mut self) -> Pair {
-        let one = self.any_cell();
-        (one, touching_cell(&mut self.dice, u32::from(one)) as u16)
+        let one = self.dice.cell();
+        (one as u16, touching_cell(&mut self.dice, one) as u16)
     }
 
     /// Two cells of links of the window.

@@ -358,7 +358,7 @@ pub fn full_log(settings: Settings, seed: u64) -> Vec<Call> {
     let cells: Vec<u32> = (0..CELLS).collect();
     let more = script.dice.between(1, script.n());
     for slide in 0..2 * script.n() + more {
-        let middle = script.dice.below(u64::from(CELLS)) as u32;
+        let middle = script.dice.cell();
         for _ in 0..LINKS_PER_SLIDE + 1 {
             let near = (middle + script.dice.below(100) as u32) % CELLS;
             let beside = touching_cell(&mut script.dice, near);
@@ -485,7 +485,7 @@ fn jump_from_t0(settings: Settings, jump: u32, seed: u64) -> Vec<Call> {
 
 /// 10 cells that hang together.
 fn draw_patch(dice: &mut Dice) -> Vec<u32> {
-    let first = dice.below(u64::from(CELLS)) as u32;
+    let first = dice.cell();
     patch(dice, first, 10)
 }
 

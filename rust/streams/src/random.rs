@@ -5,7 +5,7 @@ use crate::call::{ask, Call, MOST_LOG_PLACES};
 use crate::dice::Dice;
 use crate::hops::{huge_jump, within_a_hop};
 use crate::scene::Scene;
-use oracle::{in_lorrys_numbers, Book, Refusal, Settings, CELLS, CHAIN_PLACES, LOG_PLACES};
+use oracle::{in_lorrys_numbers, Book, Refusal, Settings, CHAIN_PLACES, LOG_PLACES};
 
 /// Which cells a random stream uses. Its links are of cells that touch and its
 /// ticks within a hop of the book's time, but for the last three kinds: some of
@@ -339,7 +339,7 @@ impl Random {
                 let (_, b) = self.dice.pick(&self.recent);
                 (first, self.mirror_for_unit(b))
             }
-            4 => (first, self.dice.below(u64::from(CELLS)) as u32),
+            4 => (first, self.dice.cell()),
             _ => (first, self.scene_cell()),
         }
     }

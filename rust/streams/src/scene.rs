@@ -22,7 +22,7 @@ impl Scene {
             let start = dice.below(u64::from(CELLS) - size as u64 + 1) as u32;
             return Scene::Patch((start..start + size as u32).collect());
         }
-        let any = any_cell(dice);
+        let any = dice.cell();
         let first = dice.pick(&[any, any, any, any, 0, 63, 960, 1023]);
         Scene::Patch(patch(dice, first, size))
     }
@@ -30,13 +30,13 @@ impl Scene {
     /// 1 to 6 things.
     pub fn things(dice: &mut Dice) -> Scene {
         let things = dice.between(1, 6);
-        Scene::Things((0..things).map(|_| any_cell(dice)).collect())
+        Scene::Things((0..things).map(|_| dice.cell()).collect())
     }
 
     pub fn cell(&self, dice: &mut Dice) -> u32 {
         match self {
             Scene::Patch(cells) => dice.pick(cells),
-            Scene::All => any_cell(dice),
+            Scene::All => dice.cell(),
             Scene::Things(middles) => {
                 let mut cell = dice.pick(middles);
                 for _ in 0..dice.below(3) {
@@ -76,8 +76,4 @@ impl Scene {
             }
         }
     }
-}
-
-fn any_cell(dice: &mut Dice) -> u32 {
-    dice.below(u64::from(CELLS)) as u32
 }

@@ -43,7 +43,7 @@ pub fn touching_cell_of(dice: &mut Dice, patch: &[u32], cell: u32) -> u32 {
 /// Any cell that lies far from one.
 pub fn far_cell(dice: &mut Dice, cell: u32) -> u32 {
     loop {
-        let other = dice.below(u64::from(CELLS)) as u32;
+        let other = dice.cell();
         if far(cell, other) {
             return other;
         }

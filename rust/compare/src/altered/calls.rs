@@ -72,7 +72,7 @@ fn draw_link(dice: &mut Dice, cells: &[u32]) -> (u32, u32) {
 
 fn draw_good_cell(dice: &mut Dice, cells: &[u32]) -> u32 {
     if dice.one_in(10) {
-        dice.below(1024) as u32
+        dice.cell()
     } else {
         dice.pick(cells)
     }

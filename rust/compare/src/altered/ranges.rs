@@ -1,7 +1,7 @@
 //! The fields of a book drawn from their ranges, and a log for it. They need not
 //! agree with one another.
 
-use oracle::{Settings, CELLS};
+use oracle::Settings;
 use streams::touching::patch;
 use streams::{Dice, MOST_LOG_PLACES};
 
@@ -119,12 +119,8 @@ pub fn draw_cells(dice: &mut Dice) -> Vec<u32> {
     if dice.one_in(6) {
         return dice.shuffled_cells();
     }
-    let (first, size) = (any_cell(dice), dice.between(4, 40) as usize);
+    let (first, size) = (dice.cell(), dice.between(4, 40) as usize);
     patch(dice, first, size)
-}
-
-pub fn any_cell(dice: &mut Dice) -> u32 {
-    dice.below(u64::from(CELLS)) as u32
 }
 
 pub fn any_size(dice: &mut Dice) -> u16 {
