@@ -1,4 +1,4 @@
-//! The workloads, drawn from seeds.
+//! The workloads, drawn from seeds. All links are of cells that touch.
 
 use crate::script::{for_oracle, Script};
 use crate::table::whole;
@@ -14,13 +14,13 @@ const FULL: usize = 256;
 /// Questions after a slide.
 const QUESTIONS: usize = 32;
 
-/// Random links all over the cells, so many in each slide: in a full window nearly all cells are one group. Two chunks fill up,
-/// two are timed; asked about are any two cells.
+/// Random links of touching cells all over the ground, so many in each slide: in a full window nearly all cells are one group. Two
+/// chunks fill up, two are timed; asked about are any two cells.
 pub fn dense(n: u8, links: usize) -> Workload {
     let mut script = Script::opened(format!("dense, n {n}, {links} links a slide"), n);
     for slide in 0..4 * u32::from(n) {
         let timed = slide >= 2 * u32::from(n);
-        let drawn = (0..links).map(|_| script.any_pair()).collect();
+        let drawn = (0..links).map(|_| script.touching_pair()).collect();
         script.slide(slide, drawn, timed);
         if timed {
             let asked = (0..QUESTIONS).map(|_| script.any_pair()).collect();
@@ -50,13 +50,13 @@ pub fn lidar(n: u8, slides: u32) -> Workload {
     script.workload
 }
 
-/// One chain through so many cells, its links in any order over the slides of a window that lies across a chunk's end; asked
+/// One chain through so many cells of a path, its links in any order over the slides of a window that lies across a chunk's end; asked
 /// about are its ends.
 pub fn long_chain(cells: usize) -> Workload {
     let n = 16;
     let links = whole((cells - 1) as f64);
     let mut script = Script::opened(format!("chain of {links} links, n {n}"), n);
-    let cells = &script.shuffled_cells()[..cells];
+    let cells = &script.path()[..cells];
     let mut links: Vec<Pair> = cells.windows(2).map(|two| (two[0], two[1])).collect();
     script.dice.shuffle(&mut links);
     script.spread(24, 16, &links);
@@ -64,14 +64,14 @@ pub fn long_chain(cells: usize) -> Workload {
     script.workload
 }
 
-/// A zigzag through so many cells: pairs 2 3, 4 5, .. before a chunk's end and 1 2, 3 4, .. after it. From the first cell, which is
+/// A zigzag through so many cells of a path: pairs 2 3, 4 5, .. before a chunk's end and 1 2, 3 4, .. after it. From the first cell, which is
 /// alone in the backward forest, the crossing goes from group to group, each inside the one before, one group more than there
 /// are cells: no crossing over so many cells is deeper.
 pub fn deep_crossing(cells: usize) -> Workload {
     let n = 4;
     let groups = whole((cells + 1) as f64);
     let mut script = Script::opened(format!("crossing of {groups} groups, n {n}"), n);
-    let cells = &script.shuffled_cells()[..cells];
+    let cells = &script.path()[..cells];
     let pairs = |from: usize| -> Vec<Pair> {
         let twos = cells[from..].chunks_exact(2);
         twos.map(|two| (two[0], two[1])).collect()
@@ -150,4 +150,27 @@ fn sweep(things: &[Thing], dice: &mut Dice) -> Vec<Pair> {
 
 fn cell(ring: u16, sector: u16) -> u16 {
     SECTORS * ring + sector
+}
+
+#[cfg(test)]
+mod tests {
+    use super::*;
+    use streams::touching::touch;
+
+    #[test]
+    fn all_links_are_of_cells_that_touch() {
+        for workload in [
+            lidar(8, 80),
+            dense(16, 256),
+            long_chain(1024),
+            deep_crossing(1024),
+        ] {
+            for batch in &workload.batches {
+                if let Calls::Links(_, pairs) = &batch.calls {
+                    let mut pairs = pairs.iter();
+                    assert!(pairs.all(|&(a, b)| touch(u32::from(a), u32::from(b))));
+                }
+            }
+        }
+    }
 }

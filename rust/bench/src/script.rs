@@ -5,6 +5,7 @@ use crate::workload::{Batch, Calls, Kind, Pair, Workload};
 use kerb::Settings;
 use oracle::{Book, LOG_PLACES};
 use std::collections::VecDeque;
+use streams::touching::{path, touching_cell};
 use streams::Dice;
 
 /// Ticks of a slide.
@@ -95,8 +96,12 @@ impl Script {
     }
 
     pub fn any_pair(&mut self) -> Pair {
-        let mut cell = || self.dice.below(1024) as u16;
-        (cell(), cell())
+        (self.dice.cell() as u16, self.dice.cell() as u16)
+    }
+
+    pub fn touching_pair(&mut self) -> Pair {
+        let one = self.dice.cell();
+        (one as u16, touching_cell(&mut self.dice, one) as u16)
     }
 
     /// Two cells of links of the window.
@@ -109,8 +114,9 @@ impl Script {
         self.dice.pick(&self.window[slide])
     }
 
-    pub fn shuffled_cells(&mut self) -> Vec<u16> {
-        let cells = self.dice.shuffled_cells();
+    /// A path through all cells, each of which touches the next.
+    pub fn path(&mut self) -> Vec<u16> {
+        let cells = path(&mut self.dice);
         cells.into_iter().map(|cell| cell as u16).collect()
     }
 }

@@ -5,6 +5,8 @@ use crate::crossings::crossings;
 use crate::tally::{number, span, Spans, Tally, NUMBERS};
 use crate::ties::has_ties;
 use oracle::{History, Link, Settings};
+use streams::hops::is_hop;
+use streams::touching::far;
 use streams::{Answer, Call};
 
 const B: &Spans = &[
@@ -83,7 +85,11 @@ pub fn tally() -> Tally {
             &["not", "within a slide", "to the next slide", "over slides"],
         ),
         ("chunk", &["the same", "the next", "chunks jumped over"]),
-        ("link taken", &["new", "repeat", "of a cell with itself"]),
+        ("ticks moved", &HOPS),
+        (
+            "link taken",
+            &["new", "repeat", "far", "of a cell with itself"],
+        ),
         ("two cells joined", &["yes", "no"]),
         ("their steps", &steps_of_two),
         ("crossings needed", &crossings),
@@ -99,7 +105,7 @@ pub fn tally() -> Tally {
 }
 
 /// The streams there are.
-pub const STREAMS: [&str; 10] = [
+pub const STREAMS: [&str; 13] = [
     "few cells",
     "all cells",
     "touching cells",
@@ -109,8 +115,19 @@ pub const STREAMS: [&str; 10] = [
     "grid",
     "full log",
     "last ticks",
+    "far links",
+    "self links",
+    "huge jumps",
     "files",
 ];
+
+/// How far the time can move at a time.
+pub(crate) const HOPS: [&str; 2] = ["a hop", "2^31 and more"];
+
+/// The class of a move of the time.
+pub(crate) fn hop(before: u32, after: u32) -> &'static str {
+    HOPS[usize::from(!is_hop(before, after))]
+}
 
 fn names(spans: &Spans) -> Vec<&'static str> {
     spans.iter().map(|of| of.1).collect()
@@ -214,6 +231,7 @@ fn count_time(tally: &mut Tally, before: Option<Moment>, history: &History) {
         _ => "chunks jumped over",
     };
     tally.count("chunk", chunk);
+    tally.count("ticks moved", hop(before.time, history.time));
 }
 
 fn count_link(tally: &mut Tally, history: &History) {
@@ -224,6 +242,8 @@ fn count_link(tally: &mut Tally, history: &History) {
     let pair = |of: &Link| (of.a.min(of.b), of.a.max(of.b));
     let kind = if link.a == link.b {
         "of a cell with itself"
+    } else if far(link.a, link.b) {
+        "far"
     } else if others.iter().any(|other| pair(other) == pair(link)) {
         "repeat"
     } else {

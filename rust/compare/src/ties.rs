@@ -38,16 +38,16 @@ mod tests {
 
     #[test]
     fn a_way_round_four_cells_is_a_tie() {
-        let history = history([(2, 1, 2), (2, 2, 3), (2, 3, 4), (2, 4, 1)]);
-        assert!(has_ties(&history, 2, &[1, 2, 3]));
+        let history = history([(2, 1, 2), (2, 2, 66), (2, 66, 65), (2, 65, 1)]);
+        assert!(has_ties(&history, 2, &[1, 2, 66]));
         assert!(!has_ties(&history, 2, &[1, 2]));
     }
 
     /// The second way round has an older link, and L leaves it out.
     #[test]
     fn links_before_l_make_no_tie() {
-        let history = history([(1, 4, 1), (2, 1, 2), (2, 2, 3), (2, 3, 4)]);
-        assert!(!has_ties(&history, 2, &[1, 2, 3]));
-        assert!(has_ties(&history, 1, &[1, 2, 3]));
+        let history = history([(1, 65, 1), (2, 1, 2), (2, 2, 66), (2, 66, 65)]);
+        assert!(!has_ties(&history, 2, &[1, 2, 66]));
+        assert!(has_ties(&history, 1, &[1, 2, 66]));
     }
 }

@@ -73,7 +73,7 @@ fn link_1_6_3_4_5() {
                 (true, false) => 44,
                 (true, true) => 49,
             },
-            a: 7,
+            a: 1022,
             b: if bad_cell { 1024 } else { 1023 },
             log_places: log_places(short),
         };

@@ -22,9 +22,8 @@ fn cell_1023_is_taken_1024_is_refused() {
     for mounting in 1..=2 {
         let mut books = opened(settings(3, 10, mounting, 0));
         for (cell, expected) in [(1023, 0), (1024, 3)] {
-            assert_eq!(link(&mut books, 0, cell, 5), expected);
-            assert_eq!(link(&mut books, 0, 5, cell), expected);
-            assert_eq!(link(&mut books, 0, cell, cell), expected);
+            assert_eq!(link(&mut books, 0, cell, 1022), expected);
+            assert_eq!(link(&mut books, 0, 1022, cell), expected);
             assert_eq!(joined(&mut books, cell, cell).0, expected);
             assert_eq!(joined(&mut books, 5, cell).0, expected);
             assert_eq!(chain(&mut books, cell, cell).0, expected);
@@ -48,7 +47,7 @@ fn the_256th_link_of_a_slide_is_taken_the_257th_is_refused() {
         for slide in [0, 1, 2, 17, 900] {
             for i in 0..256 {
                 let tick = 10 * slide + i / 64;
-                assert_eq!(link(&mut books, tick, i, i * 5 % 1024), 0);
+                assert_eq!(link(&mut books, tick, i, i + 1), 0);
             }
             assert_eq!(link(&mut books, 10 * slide + 4, 1, 2), 5);
             assert_eq!(link(&mut books, 10 * slide + 9, 1, 2), 5);

@@ -9,8 +9,10 @@ use std::time::Instant;
 use streams::files::{edge_files, every_field, Files};
 use streams::{built, Call, Dice, Kind, Random, LISTING_BYTES};
 
-/// Of each kind so many random streams, and so many calls in each.
+/// Of each kind so many random streams, and so many calls in each. There are
+/// fewer of those that are named for far links, self links and huge jumps.
 const STREAMS: u64 = 100;
+const FEWER_STREAMS: u64 = 25;
 const CALLS: usize = 4_000;
 
 /// A stream of calls, with the row of the tally that it is counted in.
@@ -57,12 +59,15 @@ fn compare(stream: Stream) -> Result<Tally, String> {
 
 fn random_streams(dice: &mut Dice) -> Vec<Stream> {
     let mut streams = Vec::new();
-    for (kind, name) in [
-        (Kind::Few, "few cells"),
-        (Kind::All, "all cells"),
-        (Kind::Touching, "touching cells"),
+    for (kind, name, count) in [
+        (Kind::Few, "few cells", STREAMS),
+        (Kind::All, "all cells", STREAMS),
+        (Kind::Touching, "touching cells", STREAMS),
+        (Kind::FarLinks, "far links", FEWER_STREAMS),
+        (Kind::SelfLinks, "self links", FEWER_STREAMS),
+        (Kind::HugeJumps, "huge jumps", FEWER_STREAMS),
     ] {
-        for place in 0..STREAMS {
+        for place in 0..count {
             let calls = Random::new(dice.bits(), kind).take(CALLS);
             streams.push(Stream {
                 kind: name,

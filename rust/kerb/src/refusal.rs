@@ -21,32 +21,29 @@ pub enum Refusal {
 }
 
 impl Refusal {
-    const ALL: [Refusal; 12] = [
-        Refusal::NoBook,
-        Refusal::Settings,
-        Refusal::NoCell,
-        Refusal::Early,
-        Refusal::Full,
-        Refusal::Short,
-        Refusal::NoTrail,
-        Refusal::LongTrail,
-        Refusal::Length,
-        Refusal::Letters,
-        Refusal::Offset,
-        Refusal::Pad,
-    ];
-
     /// The number in the table.
     pub fn number(self) -> u8 {
         self as u8
     }
 
     pub(crate) fn unless_done(number: u8) -> Result<(), Refusal> {
-        match number {
-            0 => Ok(()),
-            1..=12 => Err(Refusal::ALL[usize::from(number) - 1]),
+        let refusal = match number {
+            0 => return Ok(()),
+            1 => Refusal::NoBook,
+            2 => Refusal::Settings,
+            3 => Refusal::NoCell,
+            4 => Refusal::Early,
+            5 => Refusal::Full,
+            6 => Refusal::Short,
+            7 => Refusal::NoTrail,
+            8 => Refusal::LongTrail,
+            9 => Refusal::Length,
+            10 => Refusal::Letters,
+            11 => Refusal::Offset,
+            12 => Refusal::Pad,
             _ => unreachable!("the library gives no number {number}"),
-        }
+        };
+        Err(refusal)
     }
 }
 
@@ -71,3 +68,17 @@ impl fmt::Display for Refusal {
 }
 
 impl std::error::Error for Refusal {}
+
+#[cfg(test)]
+mod tests {
+    use super::*;
+
+    #[test]
+    fn a_number_gives_the_refusal_of_that_number() {
+        assert_eq!(Refusal::unless_done(0), Ok(()));
+        for number in 1..=12 {
+            let refusal = Refusal::unless_done(number).unwrap_err();
+            assert_eq!(refusal.number(), number);
+        }
+    }
+}

@@ -6,46 +6,50 @@ use oracle::*;
 
 #[test]
 fn l_is_the_largest_slide_even_if_an_older_chain_is_shorter() {
-    // 1-2 in slide 0; 1-3-2 in slide 1.
+    // 1-2 in slide 0; 1-65-2 in slide 1.
     let mut book = opened(4, 10, PLAIN, 0);
-    links(&mut book, &[(0, 1, 2), (10, 1, 3), (10, 3, 2)]);
-    assert_eq!(chain(&book, 1, 2), Ok((1, 3, vec![1, 3, 2])));
+    links(&mut book, &[(0, 1, 2), (10, 1, 65), (10, 65, 2)]);
+    assert_eq!(chain(&book, 1, 2), Ok((1, 3, vec![1, 65, 2])));
 }
 
 #[test]
 fn the_fewest_links_among_slides_l_to_k() {
     let mut book = opened(4, 10, PLAIN, 0);
-    links(&mut book, &[(10, 1, 3), (10, 3, 2), (20, 3, 9), (20, 1, 2)]);
+    links(
+        &mut book,
+        &[(10, 1, 65), (10, 65, 2), (20, 65, 66), (20, 1, 2)],
+    );
     assert_eq!(chain(&book, 1, 2), Ok((2, 3, vec![1, 2])));
-    assert_eq!(chain(&book, 1, 9), Ok((1, 2, vec![1, 3, 9])));
+    assert_eq!(chain(&book, 1, 66), Ok((1, 2, vec![1, 65, 66])));
 }
 
 #[test]
 fn the_cell_numbers_that_come_first_from_the_start() {
-    // From 5 to 6 by 1-8, by 2-7 or by 1-7-...: 5 1 8 6, 5 2 3 6, 5 1 9 6.
+    // From 63 to 255, ring by ring where sectors 63 and 0 meet: by 126 and 190,
+    // by 127 and 128, or by 126 and 191.
     let mut book = opened(1, 10, PLAIN, 0);
     for (a, b) in [
-        (5, 2),
-        (2, 3),
-        (3, 6),
-        (5, 1),
-        (1, 9),
-        (9, 6),
-        (1, 8),
-        (8, 6),
+        (63, 127),
+        (127, 128),
+        (128, 255),
+        (63, 126),
+        (126, 191),
+        (191, 255),
+        (126, 190),
+        (190, 255),
     ] {
         links(&mut book, &[(0, a, b)]);
     }
-    assert_eq!(chain(&book, 5, 6).unwrap().2, [5, 1, 8, 6]);
-    // From the other end the first differing cell is 3, 8 or 9.
-    assert_eq!(chain(&book, 6, 5).unwrap().2, [6, 3, 2, 5]);
+    assert_eq!(chain(&book, 63, 255).unwrap().2, [63, 126, 190, 255]);
+    // From the other end the first differing cell is 128, 190 or 191.
+    assert_eq!(chain(&book, 255, 63).unwrap().2, [255, 128, 127, 63]);
 }
 
 #[test]
 fn a_cell_and_itself() {
     let mut book = opened(5, 10, PLAIN, 0);
     assert_eq!(chain(&book, 8, 8), Ok((1, 5, vec![8])));
-    links(&mut book, &[(70, 8, 8), (70, 8, 9)]);
+    links(&mut book, &[(70, 8, 9)]);
     assert_eq!(chain(&book, 8, 8), Ok((8, 5, vec![8])));
 }
 
@@ -110,12 +114,8 @@ fn chains_by_brute_force() {
     let (mut chained, mut ties) = (0, 0);
     for _ in 0..1500 {
         let mut book = random_book(&mut dice, 6);
-        let mounting = history(&book).settings.mounting;
-        let (a, b) = (dice.below(6), dice.below(6));
-        let (a, b) = (
-            in_lorrys_numbers(a, mounting),
-            in_lorrys_numbers(b, mounting),
-        );
+        let a = cell_of(&mut dice, &book, 6);
+        let b = cell_of(&mut dice, &book, 6);
         let later = history(&book).time + dice.below(4);
         assert_eq!(clock(&mut book, later), 0);
         let history = history(&book);
@@ -151,12 +151,8 @@ fn hold_is_the_number_of_closings_survived() {
     let mut seen = [0; 7];
     for _ in 0..400 {
         let mut book = random_book(&mut dice, 5);
-        let mounting = history(&book).settings.mounting;
-        let (a, b) = (dice.below(5), dice.below(5));
-        let (a, b) = (
-            in_lorrys_numbers(a, mounting),
-            in_lorrys_numbers(b, mounting),
-        );
+        let a = cell_of(&mut dice, &book, 5);
+        let b = cell_of(&mut dice, &book, 5);
         let n = history(&book).settings.n;
         let hold = match chain(&book, a, b) {
             Ok((_, hold, _)) => hold,

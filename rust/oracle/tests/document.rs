@@ -90,10 +90,10 @@ fn run_only_n_0_and_17_refused_1_and_16_taken() {
 #[test]
 fn run_only_cell_1023_taken_1024_refused() {
     let mut book = opened(3, 10, PLAIN, 0);
-    assert_eq!(link(&mut book, 0, 1023, 0), 0);
-    assert_eq!(link(&mut book, 0, 0, 1023), 0);
-    assert_eq!(link(&mut book, 0, 1024, 0), 3);
-    assert_eq!(link(&mut book, 0, 0, 1024), 3);
+    assert_eq!(link(&mut book, 0, 1023, 1022), 0);
+    assert_eq!(link(&mut book, 0, 1022, 1023), 0);
+    assert_eq!(link(&mut book, 0, 1024, 1022), 3);
+    assert_eq!(link(&mut book, 0, 1022, 1024), 3);
     assert_eq!(number(&book.joined(0, 1023)), 0);
     assert_eq!(number(&book.joined(0, 1024)), 3);
     assert_eq!(number(&book.joined(1024, 0)), 3);
@@ -114,8 +114,8 @@ fn run_only_256th_link_taken_257th_refused() {
     let mut book = opened(3, 10, PLAIN, 0);
     assert_eq!(clock(&mut book, 10), 0);
     for i in 0..256 {
-        // Any ticks of the one slide, repeats and links with itself included.
-        assert_eq!(link(&mut book, 10 + i / 100, 5, 5 + i % 2), 0);
+        // Any ticks of the one slide, repeats included.
+        assert_eq!(link(&mut book, 10 + i / 100, 5, 6 - 2 * (i % 2)), 0);
     }
     assert_eq!(link(&mut book, 12, 1, 2), 5);
     assert_eq!(link(&mut book, 19, 1, 2), 5);

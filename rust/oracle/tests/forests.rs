@@ -7,30 +7,30 @@ use std::collections::BTreeSet;
 
 #[test]
 fn the_forward_forest_takes_links_in_order_of_arrival() {
-    // 1-2 and 3-4 first, then 2-4: a tree of depth 2.
+    // 1-2 and 65-66 first, then 2-66: a tree of depth 2.
     let mut book = opened(2, 10, PLAIN, 0);
-    links(&mut book, &[(0, 1, 2), (0, 3, 4), (10, 2, 4)]);
-    assert_eq!(joined(&book, 4, 4), (true, 4));
-    assert_eq!(joined(&book, 3, 2), (true, 2));
-    // 2-4 first: 4 under 2, then 1 and 3 under 2.
+    links(&mut book, &[(0, 1, 2), (0, 65, 66), (10, 2, 66)]);
+    assert_eq!(joined(&book, 66, 66), (true, 4));
+    assert_eq!(joined(&book, 65, 2), (true, 2));
+    // 2-66 first: 66 under 2, then 1 and 65 under 2.
     let mut book = opened(2, 10, PLAIN, 0);
-    links(&mut book, &[(0, 2, 4), (0, 1, 2), (10, 3, 4)]);
-    assert_eq!(joined(&book, 4, 4), (true, 2));
+    links(&mut book, &[(0, 2, 66), (0, 1, 2), (10, 65, 66)]);
+    assert_eq!(joined(&book, 66, 66), (true, 2));
     assert_eq!(joined(&book, 2, 1), (true, 1));
 }
 
 #[test]
 fn the_backward_forest_takes_the_last_arrival_first() {
-    // One place: arrivals 2-4, 3-4, 1-2. Scanned 1-2, 3-4, 2-4.
+    // One place: arrivals 2-66, 65-66, 1-2. Scanned 1-2, 65-66, 2-66.
     let mut book = opened(2, 10, PLAIN, 0);
-    links(&mut book, &[(10, 2, 4), (10, 3, 4), (10, 1, 2)]);
-    // Forward in chunk 0: 4 under 2, 3 under 2, 1 under 2.
-    assert_eq!(joined(&book, 4, 4), (true, 2));
+    links(&mut book, &[(10, 2, 66), (10, 65, 66), (10, 1, 2)]);
+    // Forward in chunk 0: 66 under 2, 65 under 2, 1 under 2.
+    assert_eq!(joined(&book, 66, 66), (true, 2));
     assert_eq!(joined(&book, 2, 1), (true, 1));
-    // Backward in chunk 1: 2 under 1, 4 under 3, 3 under 1.
+    // Backward in chunk 1: 2 under 1, 66 under 65, 65 under 1.
     assert_eq!(clock(&mut book, 20), 0);
-    assert_eq!(joined(&book, 4, 4), (true, 4));
-    assert_eq!(joined(&book, 3, 2), (true, 2));
+    assert_eq!(joined(&book, 66, 66), (true, 4));
+    assert_eq!(joined(&book, 65, 2), (true, 2));
     assert_eq!(joined(&book, 1, 1), (true, 0));
 }
 
@@ -38,7 +38,8 @@ fn the_backward_forest_takes_the_last_arrival_first() {
 fn the_backward_forest_goes_from_the_last_place_down() {
     // Place 1: 3-4, place 2: 1-2 and 2-3. Scanned 2-3, 1-2, 3-4.
     let mut book = opened(3, 10, PLAIN, 0);
-    links(&mut book, &[(10, 3, 4), (20, 1, 2), (20, 2, 3), (30, 9, 9)]);
+    links(&mut book, &[(10, 3, 4), (20, 1, 2), (20, 2, 3)]);
+    assert_eq!(clock(&mut book, 30), 0);
     let backward = history(&book).backward_forest();
     for (cell, root, steps) in [(1, 2, 1), (2, 2, 0), (3, 2, 1), (4, 2, 1)] {
         assert_eq!(backward.walk_at_cut(cell, 1), Walk { root, steps });
@@ -159,9 +160,8 @@ fn crossing_and_the_search_agree() {
         let book = random_book(&mut dice, 12);
         let history = history(&book);
         for _ in 0..4 {
-            // Also for cells that the mirror moved.
-            let cell = |dice: &mut Dice| (dice.below(12) + 52 * dice.below(2)) % 64;
-            let (a, b) = (cell(&mut dice), cell(&mut dice));
+            let a = cell_of(&mut dice, &book, 12);
+            let b = cell_of(&mut dice, &book, 12);
             let (answer, _) = joined(&book, a, b);
             assert_eq!(answer, joined_by_crossing(history, a, b));
             yes += u32::from(answer && a != b);

@@ -76,7 +76,7 @@ fn link_1_6_3_4_5() {
             (true, false) => 44,
             (true, true) => 49,
         };
-        for (a, b) in [(cell, 7), (7, cell)] {
+        for (a, b) in [(cell, 1022), (1022, cell)] {
             let mut book = before.clone();
             let given = number(&book.link(tick, a, b, places));
             assert_eq!(given, first_fault(&order, mask), "mask {:05b}", mask);
@@ -237,22 +237,21 @@ fn chain_places() {
 #[test]
 fn the_table() {
     use Refusal::*;
-    let table = [
-        NeverOpened,
-        Settings,
-        Cell,
-        Tick,
-        SlideFull,
-        Buffer,
-        NoTrail,
-        LongChain,
-        Length,
-        Letters,
-        Trailer,
-        Pad,
-    ];
-    for (place, refusal) in table.iter().enumerate() {
-        assert_eq!(refusal.number(), place as u32 + 1);
+    for (refusal, number) in [
+        (NeverOpened, 1),
+        (Settings, 2),
+        (Cell, 3),
+        (Tick, 4),
+        (SlideFull, 5),
+        (Buffer, 6),
+        (NoTrail, 7),
+        (LongChain, 8),
+        (Length, 9),
+        (Letters, 10),
+        (Trailer, 11),
+        (Pad, 12),
+    ] {
+        assert_eq!(refusal.number(), number);
     }
     assert_eq!(number::<()>(&Ok(())), 0);
 }

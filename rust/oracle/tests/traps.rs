@@ -7,18 +7,18 @@ use oracle::*;
 /// Shortening parents during a walk: the labels no longer tell the cuts apart.
 #[test]
 fn shortened_parents() {
-    // Place 2: 1-2 and 3-4; place 1: 2-4. So 4 - 3 - 1 with labels 2 and 1.
+    // Place 2: 1-2 and 65-66; place 1: 2-66. So 66 - 65 - 1 with labels 2 and 1.
     let mut book = opened(3, 10, PLAIN, 0);
-    links(&mut book, &[(10, 2, 4), (20, 1, 2), (20, 3, 4)]);
+    links(&mut book, &[(10, 2, 66), (20, 1, 2), (20, 65, 66)]);
     assert_eq!(clock(&mut book, 30), 0);
-    // Several walks of 4, and it keeps its two steps.
+    // Several walks of 66, and it keeps its two steps.
     for _ in 0..3 {
-        assert_eq!(joined(&book, 4, 1), (true, 2));
+        assert_eq!(joined(&book, 66, 1), (true, 2));
     }
-    // At cut 2 it still steps to 3, and no further.
+    // At cut 2 it still steps to 65, and no further.
     assert_eq!(clock(&mut book, 40), 0);
-    assert_eq!(joined(&book, 4, 3), (true, 1));
-    assert_eq!(joined(&book, 4, 1), (false, 1));
+    assert_eq!(joined(&book, 66, 65), (true, 1));
+    assert_eq!(joined(&book, 66, 1), (false, 1));
 }
 
 /// Testing both forests and crossing once only: P12 comes out wrong; here with
@@ -54,11 +54,14 @@ fn n_plus_1_slides() {
 #[test]
 fn early_exit() {
     let mut book = opened(2, 10, PLAIN, 0);
-    links(&mut book, &[(10, 1, 2), (20, 1, 2), (20, 3, 4), (20, 1, 3)]);
-    // Backward: 2 one step. Forward: 2 one, 4 two.
-    assert_eq!(joined(&book, 2, 4), (true, 4));
+    links(
+        &mut book,
+        &[(10, 1, 2), (20, 1, 2), (20, 65, 66), (20, 1, 65)],
+    );
+    // Backward: 2 one step. Forward: 2 one, 66 two.
+    assert_eq!(joined(&book, 2, 66), (true, 4));
     assert_eq!(joined(&book, 2, 2), (true, 4));
-    assert_eq!(joined(&book, 4, 4), (true, 4));
+    assert_eq!(joined(&book, 66, 66), (true, 4));
 }
 
 /// Measuring hold from the slide of a chain's newest link instead of from L.

@@ -1,4 +1,6 @@
-//! Built streams: the ends of the ranges that chance does not reach.
+//! Built streams: the ends of the ranges that chance does not reach. Where a
+//! stream needs many cells it takes them from a [`path`], on which each cell
+//! touches the next.
 //!
 //! - [`deep_walks`]: 10 steps in a walk of either forest, 40 in all for a cell
 //!   with itself and 38 for two different cells;
@@ -7,11 +9,17 @@
 //! - [`grid`]: many chains with the fewest links;
 //! - [`full_log`]: every slide of two chunks full;
 //! - [`last_ticks`]: the last slides of all, up to slide 4,294,967,295;
+//! - [`far_links`], [`self_links`], [`huge_jumps`]: what no other stream has;
 //! - [`all`]: all of these for all n and both mountings.
 
 use crate::call::Call;
 use crate::dice::Dice;
-use oracle::{in_lorrys_numbers, Settings, CELLS, CHAIN_PLACES, LINKS_PER_SLIDE, LOG_PLACES};
+use crate::hops::{within_a_hop, LONGEST_HOP};
+use crate::touching::{far, patch, path, touching_cell, touching_cell_of, touching_cells};
+use oracle::{
+    in_lorrys_numbers, CellSet, Settings, CELLS, CHAIN_PLACES, LINKS_PER_SLIDE, LOG_PLACES, RINGS,
+    SECTORS,
+};
 
 /// A link in the lorry's numbers.
 type Pair = (u32, u32);
@@ -47,20 +55,37 @@ impl Script {
     }
 
     fn clock(&mut self, slide: u64) {
+        self.clock_at(self.tick(slide));
+    }
+
+    fn clock_at(&mut self, tick: u32) {
         self.calls.push(Call::Clock {
-            tick: self.tick(slide),
+            tick,
             log_places: LOG_PLACES,
         });
     }
 
     fn link(&mut self, slide: u64, pair: Pair) {
+        self.link_at(self.tick(slide), pair);
+    }
+
+    fn link_at(&mut self, tick: u32, pair: Pair) {
         let mounting = self.settings.mounting;
         self.calls.push(Call::Link {
-            tick: self.tick(slide),
+            tick,
             a: in_lorrys_numbers(pair.0, mounting),
             b: in_lorrys_numbers(pair.1, mounting),
             log_places: LOG_PLACES,
         });
+    }
+
+    /// Clock calls from T0 to the first tick of a slide, hop by hop.
+    fn hop_from_t0(&mut self, slide: u64) {
+        let mut time = self.settings.t0;
+        while time != self.tick(slide) {
+            time = within_a_hop(time, self.tick(slide));
+            self.clock_at(time);
+        }
     }
 
     /// The links in their order over so many slides, as evenly as can be.
@@ -126,19 +151,35 @@ fn cells_for(slides: u64) -> usize {
     cells
 }
 
-/// Links that unite equal sizes only: cells to pairs, pairs to fours, and so
-/// on. Each uniting puts one more step before every cell of the child's tree,
-/// so 2^j cells come to a walk of j steps. Which cells of two trees the link
-/// names makes no difference to the forest; they are drawn.
+/// Links that unite equal sizes only: the cells of a path to pairs, pairs to
+/// fours, and so on. Each uniting puts one more step before every cell of the
+/// child's tree, so 2^j cells come to a walk of j steps. Which cells of two trees
+/// the link names makes no difference to the forest; they are drawn from those
+/// that touch, as the last of the one and the first of the other do.
 fn unite_equal_sizes(cells: &[u32], dice: &mut Dice) -> Vec<Pair> {
     let mut pairs = Vec::new();
     let mut size = 1;
     while size < cells.len() {
         for two_trees in cells.chunks(2 * size) {
             let (left, right) = two_trees.split_at(size);
-            pairs.push((dice.pick(left), dice.pick(right)));
+            pairs.push(dice.pick(&touching_pairs(left, right)));
         }
         size *= 2;
+    }
+    pairs
+}
+
+/// All two cells that touch, one of the left and one of the right.
+fn touching_pairs(left: &[u32], right: &[u32]) -> Vec<Pair> {
+    let mut to_the_right = CellSet::EMPTY;
+    for &cell in right {
+        to_the_right.insert(cell);
+    }
+    let mut pairs = Vec::new();
+    for &one in left {
+        let others = touching_cells(one).into_iter();
+        let others = others.filter(|&other| to_the_right.contains(other));
+        pairs.extend(others.map(|other| (one, other)));
     }
     pairs
 }
@@ -170,7 +211,7 @@ pub fn deep_walks(settings: Settings, chunk: u64, back: u64, ahead: u64, seed: u
     let mut script = Script::opened(settings, seed);
     let n = script.n();
     assert!(chunk >= 1 && ahead >= 1 && back + ahead <= n);
-    let cells = script.dice.shuffled_cells();
+    let cells = path(&mut script.dice);
     let start = chunk * n;
 
     if back > 0 {
@@ -198,7 +239,7 @@ pub fn deep_walks(settings: Settings, chunk: u64, back: u64, ahead: u64, seed: u
     script.calls
 }
 
-/// A zigzag: cells 1 2, 3 4, 5 6, ... of some order linked in the last `back`
+/// A zigzag: cells 1 2, 3 4, 5 6, ... of a path linked in the last `back`
 /// places of one chunk, 2 3, 4 5, ... in the first `ahead` places of the next.
 /// From 2 and 2 slides on (n from 4 on) it runs through all 1,024 cells, by 512
 /// groups of the backward forest and 511 of the forward forest.
@@ -208,7 +249,7 @@ pub fn zigzag(settings: Settings, chunk: u64, back: u64, ahead: u64, seed: u64) 
     assert!(chunk >= 1 && back >= 1 && ahead >= 1 && back + ahead <= n);
     let room = LINKS_PER_SLIDE as u64 * back.min(ahead);
     let count = (2 * room as usize).min(CELLS as usize);
-    let mut cells = script.dice.shuffled_cells();
+    let mut cells = path(&mut script.dice);
     let others = cells.split_off(count);
     let start = chunk * n;
 
@@ -241,7 +282,7 @@ pub fn long_chain(settings: Settings, first_slide: u64, seed: u64) -> Vec<Call> 
     let mut script = Script::opened(settings, seed);
     let n = script.n();
     assert!(n >= 4);
-    let cells = script.dice.shuffled_cells();
+    let cells = path(&mut script.dice);
     let mut pairs: Vec<Pair> = cells.windows(2).map(|two| (two[0], two[1])).collect();
     script.dice.shuffle(&mut pairs);
     script.links(first_slide, n, &pairs);
@@ -257,40 +298,56 @@ pub fn long_chain(settings: Settings, first_slide: u64, seed: u64) -> Vec<Call> 
     script.calls
 }
 
-/// A grid of cells, each linked with those beside and below it: between most
-/// cells there are many chains with the fewest links, and only their cell
-/// numbers tell which comes first.
+/// A grid of cells, all 16 rings and as many columns as the window has room for,
+/// each cell linked with those beside and below it: between most cells there are
+/// many chains with the fewest links, and only their cell numbers tell which
+/// comes first.
 pub fn grid(settings: Settings, first_slide: u64, seed: u64) -> Vec<Call> {
     let mut script = Script::opened(settings, seed);
     let n = script.n();
     let room = n as usize * LINKS_PER_SLIDE;
-    let mut side = 32;
-    while 2 * side * (side - 1) > room {
-        side -= 1;
+    let mut columns = SECTORS as usize;
+    let rows = RINGS as usize;
+    while rows * (columns - 1) + (rows - 1) * columns > room {
+        columns -= 1;
     }
-    let cells = script.dice.shuffled_cells();
-    let cell = |row: usize, column: usize| cells[row * side + column];
+    let cells = draw_grid(&mut script.dice, columns);
     let mut pairs = Vec::new();
-    for row in 0..side {
-        for column in 0..side {
-            if column + 1 < side {
-                pairs.push((cell(row, column), cell(row, column + 1)));
+    for row in 0..rows {
+        for column in 0..columns {
+            if column + 1 < columns {
+                pairs.push((cells[row][column], cells[row][column + 1]));
             }
-            if row + 1 < side {
-                pairs.push((cell(row, column), cell(row + 1, column)));
+            if row + 1 < rows {
+                pairs.push((cells[row][column], cells[row + 1][column]));
             }
         }
     }
     script.dice.shuffle(&mut pairs);
     script.links(first_slide, n, &pairs);
 
-    let used = &cells[..side * side];
-    let ends = (cell(0, 0), cell(side - 1, side - 1));
+    let used = cells.concat();
+    let ends = (cells[0][0], cells[rows - 1][columns - 1]);
     script.both_questions(ends.0, ends.1);
-    script.both_questions(cell(0, side - 1), cell(side - 1, 0));
-    script.some_questions(ends.0, used, 60);
-    script.run_out(first_slide + n - 1, ends, used);
+    script.both_questions(cells[0][columns - 1], cells[rows - 1][0]);
+    script.some_questions(ends.0, &used, 60);
+    script.run_out(first_slide + n - 1, ends, &used);
     script.calls
+}
+
+/// The cells of a grid, a row in each ring. A row begins in any sector that keeps
+/// it touching the row above, so that columns slant, and rows go on beyond sector
+/// 63.
+fn draw_grid(dice: &mut Dice, columns: usize) -> Vec<Vec<u32>> {
+    let mut start = dice.below(u64::from(SECTORS)) as u32;
+    let mut rows = Vec::new();
+    for ring in 0..RINGS {
+        start += dice.pick(&[SECTORS - 1, 0, 1]);
+        let sectors = start..start + columns as u32;
+        let cell = |sector| SECTORS * ring + sector % SECTORS;
+        rows.push(sectors.map(cell).collect());
+    }
+    rows
 }
 
 /// Every slide of two chunks and of the beginning of a third full, and one
@@ -301,11 +358,11 @@ pub fn full_log(settings: Settings, seed: u64) -> Vec<Call> {
     let cells: Vec<u32> = (0..CELLS).collect();
     let more = script.dice.between(1, script.n());
     for slide in 0..2 * script.n() + more {
-        let middle = script.dice.below(u64::from(CELLS)) as u32;
+        let middle = script.dice.cell();
         for _ in 0..LINKS_PER_SLIDE + 1 {
-            let near = |dice: &mut Dice| (middle + dice.below(100) as u32) % CELLS;
-            let pair = (near(&mut script.dice), near(&mut script.dice));
-            script.link(slide, pair);
+            let near = (middle + script.dice.below(100) as u32) % CELLS;
+            let beside = touching_cell(&mut script.dice, near);
+            script.link(slide, (near, beside));
         }
         script.some_questions(middle, &cells, 8);
         script.both_questions(middle, (middle + 50) % CELLS);
@@ -313,7 +370,7 @@ pub fn full_log(settings: Settings, seed: u64) -> Vec<Call> {
     script.calls
 }
 
-/// Slides of one tick, T0 0, and the time jumps to the last slides there are:
+/// Slides of one tick, T0 0, and the time hops to the last slides there are:
 /// k up to 4,294,967,295, so that k + 1 passes 32 bits. Some links in each
 /// slide among a few cells, and questions after each.
 pub fn last_ticks(n: u32, mounting: u32, seed: u64) -> Vec<Call> {
@@ -324,18 +381,128 @@ pub fn last_ticks(n: u32, mounting: u32, seed: u64) -> Vec<Call> {
         t0: 0,
     };
     let mut script = Script::opened(settings, seed);
-    let mut cells = script.dice.shuffled_cells();
-    cells.truncate(10);
+    let cells = draw_patch(&mut script.dice);
     let last = u64::from(u32::MAX);
-    for slide in last - 3 * u64::from(n)..=last {
+    let first = last - 3 * u64::from(n);
+    script.hop_from_t0(first);
+    for slide in first..=last {
         for _ in 0..script.dice.between(0, 3) {
-            let pair = (script.dice.pick(&cells), script.dice.pick(&cells));
+            let pair = draw_pair(&mut script.dice, &cells);
             script.link(slide, pair);
         }
         script.clock(slide);
         script.some_questions(cells[0], &cells, 5);
     }
     script.calls
+}
+
+/// Two stretches of a path with links along each, and in each slide of a window a
+/// link from one to the other, of cells that do not touch.
+pub fn far_links(settings: Settings, first_slide: u64, seed: u64) -> Vec<Call> {
+    let mut script = Script::opened(settings, seed);
+    let n = script.n();
+    let cells = path(&mut script.dice);
+    let (one, other) = (&cells[..20], &cells[500..520]);
+    for slide in first_slide..first_slide + n {
+        for stretch in [one, other] {
+            for _ in 0..10 {
+                let pair = draw_pair(&mut script.dice, stretch);
+                script.link(slide, pair);
+            }
+        }
+        let pair = draw_far_pair(&mut script.dice, one, other);
+        script.link(slide, pair);
+        script.both_questions(pair.0, pair.1);
+        script.both_questions(one[0], other[0]);
+    }
+    script.run_out(first_slide + n - 1, (one[0], other[0]), &cells[..20]);
+    script.calls
+}
+
+/// Links of cells with themselves between links of a patch, in each slide of a
+/// window. They alone fill the last one up, and there is one too many.
+pub fn self_links(settings: Settings, first_slide: u64, seed: u64) -> Vec<Call> {
+    let mut script = Script::opened(settings, seed);
+    let n = script.n();
+    let cells = draw_patch(&mut script.dice);
+    let last_slide = first_slide + n - 1;
+    for slide in first_slide..=last_slide {
+        for _ in 0..4 {
+            let pair = draw_pair(&mut script.dice, &cells);
+            script.link(slide, pair);
+            let cell = script.dice.pick(&cells);
+            script.link(slide, (cell, cell));
+        }
+        script.some_questions(cells[0], &cells, 5);
+    }
+    for _ in 0..LINKS_PER_SLIDE - 7 {
+        script.link(last_slide, (cells[0], cells[0]));
+    }
+    script.some_questions(cells[0], &cells, 5);
+    script.run_out(last_slide, (cells[0], cells[9]), &cells);
+    script.calls
+}
+
+/// Jumps of 2^31 ticks and more, by a clock call and by a link, just so far, to
+/// the last tick and between, in slides of every length; each in a history of its
+/// own, for none has room for two.
+pub fn huge_jumps(n: u32, mounting: u32, seed: u64) -> Vec<Call> {
+    let mut dice = Dice::new(seed);
+    let mut calls = Vec::new();
+    let least = LONGEST_HOP + 1;
+    for b in [1, 1_000, LONGEST_HOP, u32::MAX] {
+        let between = dice.between(u64::from(least), u64::from(u32::MAX)) as u32;
+        for jump in [least, between, u32::MAX] {
+            let settings = Settings {
+                n,
+                b,
+                mounting,
+                t0: dice.below(u64::from(u32::MAX - jump) + 1) as u32,
+            };
+            calls.extend(jump_from_t0(settings, jump, dice.bits()));
+        }
+    }
+    calls
+}
+
+/// Some links, a jump so far from T0, and some more.
+fn jump_from_t0(settings: Settings, jump: u32, seed: u64) -> Vec<Call> {
+    let mut script = Script::opened(settings, seed);
+    let cells = draw_patch(&mut script.dice);
+    let by_clock = script.dice.one_in(2);
+    for tick in [settings.t0, settings.t0 + jump] {
+        if by_clock {
+            script.clock_at(tick);
+        }
+        for _ in 0..10 {
+            let pair = draw_pair(&mut script.dice, &cells);
+            script.link_at(tick, pair);
+        }
+        script.some_questions(cells[0], &cells, 5);
+    }
+    script.calls
+}
+
+/// 10 cells that hang together.
+fn draw_patch(dice: &mut Dice) -> Vec<u32> {
+    let first = dice.cell();
+    patch(dice, first, 10)
+}
+
+/// Two cells of a patch that touch.
+fn draw_pair(dice: &mut Dice, patch: &[u32]) -> Pair {
+    let cell = dice.pick(patch);
+    (cell, touching_cell_of(dice, patch, cell))
+}
+
+/// Two cells that do not touch, one of each stretch of a path.
+fn draw_far_pair(dice: &mut Dice, one: &[u32], other: &[u32]) -> Pair {
+    loop {
+        let pair = (dice.pick(one), dice.pick(other));
+        if far(pair.0, pair.1) {
+            return pair;
+        }
+    }
 }
 
 /// Settings whose slides up to 200 have ticks.
@@ -400,6 +567,15 @@ pub fn all(seed: u64) -> Vec<(String, Vec<Call>)> {
             });
             add(n, mounting, "last ticks", &|at| {
                 last_ticks(n, mounting, at.seed)
+            });
+            add(n, mounting, "far links", &|at| {
+                far_links(at.settings, at.any_slide(), at.seed)
+            });
+            add(n, mounting, "self links", &|at| {
+                self_links(at.settings, at.any_slide(), at.seed)
+            });
+            add(n, mounting, "huge jumps", &|at| {
+                huge_jumps(n, mounting, at.seed)
             });
         }
     }

@@ -57,6 +57,13 @@ pub enum Call {
     },
 }
 
+impl Call {
+    /// Whether it asks a book and leaves it as it was.
+    pub fn is_question(&self) -> bool {
+        matches!(self, Call::Joined { .. } | Call::Chain { .. })
+    }
+}
+
 /// What a call gave, all result fields and the lent buffer as it is afterwards
 /// (the log aside, whose layout the document leaves open).
 #[derive(Clone, Debug, PartialEq, Eq)]

@@ -47,6 +47,11 @@ impl Dice {
         }
     }
 
+    /// Any of the 1,024 cells.
+    pub fn cell(&mut self) -> u32 {
+        self.below(u64::from(oracle::CELLS)) as u32
+    }
+
     /// All 1,024 cells in a random order.
     pub fn shuffled_cells(&mut self) -> Vec<u32> {
         let mut cells: Vec<u32> = (0..oracle::CELLS).collect();

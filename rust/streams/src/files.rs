@@ -2,10 +2,13 @@
 
 use crate::call::{Call, LISTING_BYTES};
 use crate::dice::Dice;
-use crate::random::{draw_settings, spoil_settings, touching_cell};
+use crate::hops::{huge_jump, within_a_hop};
+use crate::random::{draw_settings, spoil_settings};
+use crate::scene::Scene;
+use crate::touching::far_cell;
 use oracle::{
-    file_length, in_lorrys_numbers, record_bytes, write, Book, Record, Settings, CELLS, LOG_PLACES,
-    MOST_RECORDS, RECORD_BYTES, TAIL_BYTES,
+    file_length, in_lorrys_numbers, record, record_bytes, write, Book, Record, Settings,
+    LOG_PLACES, MOST_RECORDS, RECORD_BYTES, TAIL_BYTES,
 };
 
 /// An endless stream of calls with files: reader, listing and writer.
@@ -82,9 +85,11 @@ fn valid_records(dice: &mut Dice, settings: Settings) -> Vec<Record> {
         _ => MOST_RECORDS as u64,
     };
     let moves = dice.pick(&[1, 3, 10, 40, 200]);
-    let cells = dice.pick(&[4, 10, 40, u64::from(CELLS)]);
-    let first_cell = dice.below(u64::from(CELLS) - cells + 1) as u32;
-    let touching = dice.one_in(4);
+    let mut scene = match dice.below(4) {
+        0 | 1 => Scene::few(dice),
+        2 => Scene::All,
+        _ => Scene::things(dice),
+    };
 
     let mut book = Book::new();
     book.opening(settings, LOG_PLACES).expect("good settings");
@@ -92,14 +97,12 @@ fn valid_records(dice: &mut Dice, settings: Settings) -> Vec<Record> {
     let mut records = Vec::new();
     for _ in 0..wanted {
         if dice.one_in(moves) {
-            tick = later(dice, settings, tick);
+            let time = records.last().map_or(settings.t0, |of: &Record| of.tick);
+            tick = within_a_hop(time, later(dice, settings, tick));
+            scene.drift(dice);
         }
-        let a = first_cell + dice.below(cells) as u32;
-        let b = if touching {
-            touching_cell(dice, a)
-        } else {
-            first_cell + dice.below(cells) as u32
-        };
+        let a = scene.cell(dice);
+        let b = scene.beside(dice, a);
         let (a, b) = (
             in_lorrys_numbers(a, settings.mounting),
             in_lorrys_numbers(b, settings.mounting),
@@ -144,11 +147,14 @@ pub enum Field {
     Tick,
     Cell,
     FullSlide,
+    FarLink,
+    SelfLink,
+    HugeJump,
     AnyByte,
 }
 
 /// All of them.
-pub const FIELDS: [Field; 14] = [
+pub const FIELDS: [Field; 17] = [
     Field::Length,
     Field::Letters,
     Field::Offset,
@@ -162,6 +168,9 @@ pub const FIELDS: [Field; 14] = [
     Field::Tick,
     Field::Cell,
     Field::FullSlide,
+    Field::FarLink,
+    Field::SelfLink,
+    Field::HugeJump,
     Field::AnyByte,
 ];
 
@@ -177,7 +186,10 @@ pub fn damage(dice: &mut Dice, file: &mut Vec<u8>) {
 }
 
 /// Damages one field of a file of at least 24 bytes. A damaged T0, tick or byte
-/// may leave the file good; the others are refused, where the field exists.
+/// may leave the file good, and so may a far link, a self link and, in the last
+/// record, a huge jump; the others are refused, where the field exists. Ticks stay
+/// within a hop of those beside them, but for the jump, and any byte may be that
+/// of a tick or of a cell.
 pub fn damage_field(dice: &mut Dice, file: &mut Vec<u8>, field: Field) {
     let settings = file.len() - TAIL_BYTES;
     let trailer = settings + 12;
@@ -214,18 +226,31 @@ pub fn damage_field(dice: &mut Dice, file: &mut Vec<u8>, field: Field) {
         Field::N => file[settings + 8] = dice.pick(&[0, 17, 32, 255]),
         Field::B => put(file, settings + 4, 0),
         Field::Mounting => file[settings + 9] = dice.pick(&[0, 3, 255]),
-        Field::T0 => put(file, settings, dice.bits() as u32),
-        Field::Tick if m > 0 => {
-            let record = RECORD_BYTES * dice.below(m) as usize;
+        Field::T0 => {
             let any = dice.bits() as u32;
-            put(file, record, dice.pick(&[0, any, u32::MAX]));
+            let t0 = if m > 0 {
+                within_a_hop(record(file, 0).tick, any)
+            } else {
+                any
+            };
+            put(file, settings, t0);
+        }
+        Field::Tick if m > 0 => {
+            let place = dice.below(m) as usize;
+            let any = dice.bits() as u32;
+            let tick = dice.pick(&[0, any, u32::MAX]);
+            let mut tick = within_a_hop(time_before(file, place), tick);
+            if place + 1 < m as usize {
+                tick = within_a_hop(record(file, place + 1).tick, tick);
+            }
+            put(file, RECORD_BYTES * place, tick);
         }
         Field::Cell if m > 0 => {
-            let record = RECORD_BYTES * dice.below(m) as usize;
-            let place = record + dice.pick(&[4, 6]);
-            let any = dice.between(1024, 65_535) as u16;
+            let place = dice.below(m) as usize;
+            let any = dice.between(1024, 65_535) as u32;
             let cell = dice.pick(&[1024, 65_535, any]);
-            file[place..place + 2].copy_from_slice(&cell.to_le_bytes());
+            let end = dice.pick(&[4, 6]);
+            put_cell(file, RECORD_BYTES * place + end, cell);
         }
         Field::FullSlide if m > 256 => {
             let start = dice.below(m - 256) as usize;
@@ -234,7 +259,28 @@ pub fn damage_field(dice: &mut Dice, file: &mut Vec<u8>, field: Field) {
                 file[RECORD_BYTES * place..][..RECORD_BYTES].copy_from_slice(&first);
             }
         }
-        Field::Tick | Field::Cell | Field::FullSlide => {}
+        Field::FarLink if m > 0 => {
+            let place = dice.below(m) as usize;
+            let other = far_cell(dice, u32::from(record(file, place).a));
+            put_cell(file, RECORD_BYTES * place + 6, other);
+        }
+        Field::SelfLink if m > 0 => {
+            let place = dice.below(m) as usize;
+            let same = u32::from(record(file, place).a);
+            put_cell(file, RECORD_BYTES * place + 6, same);
+        }
+        Field::HugeJump if m > 0 => {
+            // In the last record, so that no later one lies before it.
+            let place = m as usize - 1;
+            let tick = huge_jump(dice, time_before(file, place));
+            put(file, RECORD_BYTES * place, tick);
+        }
+        Field::Tick
+        | Field::Cell
+        | Field::FullSlide
+        | Field::FarLink
+        | Field::SelfLink
+        | Field::HugeJump => {}
         Field::AnyByte => {
             let byte = dice.below(file.len() as u64) as usize;
             file[byte] ^= 1 << dice.below(8);
@@ -270,6 +316,21 @@ fn damage_length(dice: &mut Dice, file: &mut Vec<u8>) {
 
 fn put(file: &mut [u8], offset: usize, number: u32) {
     file[offset..offset + 4].copy_from_slice(&number.to_le_bytes());
+}
+
+/// A number of two bytes.
+fn put_cell(file: &mut [u8], offset: usize, cell: u32) {
+    file[offset..offset + 2].copy_from_slice(&(cell as u16).to_le_bytes());
+}
+
+/// The book's time when the record at a place is played: the tick of the one
+/// before, or T0.
+fn time_before(file: &[u8], place: usize) -> u32 {
+    if place > 0 {
+        return record(file, place - 1).tick;
+    }
+    let t0 = &file[file.len() - TAIL_BYTES..];
+    u32::from_le_bytes([t0[0], t0[1], t0[2], t0[3]])
 }
 
 /// A call of the writer: settings, the length of the records and the room,
@@ -317,10 +378,12 @@ fn edge_file(length: usize) -> Vec<u8> {
     tail.extend(*b"KERB");
     let mut file = Vec::new();
     for place in 0..m as u32 {
+        // Neighbours in number touch.
+        let a = (place % 1023) as u16;
         file.extend(record_bytes(Record {
             tick: place / 256,
-            a: (place % 1024) as u16,
-            b: (place * 7 % 1024) as u16,
+            a,
+            b: a + 1,
         }));
     }
     // Short files keep the end of the tail, odd lengths have bytes too many.

@@ -5,6 +5,11 @@
 //! everywhere. A stream is an iterator or a `Vec` of [`Call`]; [`ask`] puts a
 //! call to the oracle and gives its [`Answer`], with the lent buffers as the
 //! call left them.
+//!
+//! Links are of cells that touch ([`touching`]) and ticks within a hop of the
+//! book's time ([`hops`]), so that a rule about other links and ticks changes
+//! nothing here: those are in the streams that are named for far links, self
+//! links and huge jumps, and in the files damaged by these.
 
 #![forbid(unsafe_code)]
 
@@ -12,7 +17,10 @@ pub mod built;
 mod call;
 mod dice;
 pub mod files;
+pub mod hops;
 mod random;
+mod scene;
+pub mod touching;
 
 pub use call::{ask, lent_bytes, lent_places, Answer, Call, LISTING_BYTES, MOST_LOG_PLACES};
 pub use dice::Dice;

@@ -3,35 +3,37 @@
 
 use crate::call::{ask, Call, MOST_LOG_PLACES};
 use crate::dice::Dice;
-use oracle::{
-    in_lorrys_numbers, Book, Refusal, Settings, CELLS, CHAIN_PLACES, LOG_PLACES, RINGS, SECTORS,
-};
+use crate::hops::{huge_jump, within_a_hop};
+use crate::scene::Scene;
+use oracle::{in_lorrys_numbers, Book, Refusal, Settings, CHAIN_PLACES, LOG_PLACES};
 
-/// Which cells a random stream uses.
+/// Which cells a random stream uses. Its links are of cells that touch and its
+/// ticks within a hop of the book's time, but for the last three kinds: some of
+/// their links or ticks are what they are named for.
 #[derive(Clone, Copy, Debug, PartialEq, Eq)]
 pub enum Kind {
-    /// Pools of 4 to 40 cells.
+    /// Patches of 4 to 40 cells.
     Few,
     /// All 1,024 cells.
     All,
-    /// Touching cells around a few things that drift, as a lidar sees them.
+    /// Cells around a few things that drift, as a lidar sees them.
     Touching,
-    /// The other three in turn, by chance.
+    /// The first three in turn, by chance.
     Mixed,
-}
-
-/// What the cells of one history are drawn from, in the lorry's numbers.
-#[derive(Clone, Debug)]
-enum Scene {
-    Pool(Vec<u32>),
-    /// The middle cells of the things seen.
-    Things(Vec<u32>),
+    /// Mixed, and links of cells that do not touch.
+    FarLinks,
+    /// Mixed, and links of a cell with itself.
+    SelfLinks,
+    /// Mixed, and ticks beyond a hop.
+    HugeJumps,
 }
 
 /// What one history is like.
 #[derive(Clone, Debug)]
 struct Habits {
     scene: Scene,
+    /// One link or tick in so many is what the stream's kind is named for.
+    strays: u64,
     /// Of 100 calls so many are questions.
     questions: u64,
     /// One link or clock call in so many moves the time.
@@ -59,8 +61,8 @@ pub struct Random {
     left: u64,
     /// Links of the burst still to come.
     burst: u64,
-    /// The history starts with a jump towards the last tick.
-    leap: bool,
+    /// The tick near the last one that the history starts with going to.
+    leap: Option<u32>,
     /// The latest call that was no question found its slide full.
     full: bool,
     /// The latest links, in the unit's numbers, for repeats and questions.
@@ -81,7 +83,7 @@ impl Random {
             book: Book::new(),
             habits,
             burst: 0,
-            leap: false,
+            leap: None,
             full: false,
             recent: Vec::new(),
         }
@@ -108,21 +110,30 @@ impl Random {
         self.habits.spoils > 0 && self.dice.one_in(self.habits.spoils)
     }
 
+    /// Whether a link or a tick is what streams of this kind are named for.
+    fn strays(&mut self, kind: Kind) -> bool {
+        self.kind == kind && self.dice.one_in(self.habits.strays)
+    }
+
     fn begin_history(&mut self) -> Call {
         self.habits = draw_habits(&mut self.dice, self.kind);
         self.left = self.habits.calls;
-        self.leap = self.dice.one_in(5);
         self.recent.clear();
+        let settings = draw_settings(&mut self.dice);
+        self.leap = if self.dice.one_in(5) {
+            Some(tick_near_the_last(&mut self.dice, settings))
+        } else {
+            None
+        };
         Call::Opening {
-            settings: draw_settings(&mut self.dice),
+            settings,
             log_places: long_log(&mut self.dice),
         }
     }
 
     fn draw(&mut self) -> Call {
-        if self.leap {
-            self.leap = false;
-            return self.leap_call();
+        if let Some(tick) = self.leap {
+            return self.leap_call(tick);
         }
         if self.burst > 0 && !self.dice.one_in(4) {
             self.burst -= 1;
@@ -141,13 +152,15 @@ impl Random {
         }
     }
 
-    /// A clock call far ahead, to where only a few slides are left.
-    fn leap_call(&mut self) -> Call {
-        let (settings, time) = self.now();
-        let few_slides = 3 * u64::from(settings.n) * u64::from(settings.b);
-        let back = self.dice.below(few_slides + 1).min(u64::from(u32::MAX));
+    /// A clock call far ahead, hop by hop to where only a few slides are left.
+    fn leap_call(&mut self, last: u32) -> Call {
+        let (_, time) = self.now();
+        let tick = within_a_hop(time, last);
+        if tick == last {
+            self.leap = None;
+        }
         Call::Clock {
-            tick: time.max(u32::MAX - back as u32),
+            tick,
             log_places: LOG_PLACES,
         }
     }
@@ -208,7 +221,7 @@ impl Random {
 
     /// Lets the stream's own book follow the call.
     fn follow(&mut self, call: &Call) {
-        if matches!(call, Call::Joined { .. } | Call::Chain { .. }) {
+        if call.is_question() {
             return;
         }
         let number = ask(&mut self.book, call).number();
@@ -232,13 +245,17 @@ impl Random {
 
     fn tick(&mut self) -> u32 {
         let (_, time) = self.now();
-        if self.spoilt() {
+        if self.strays(Kind::HugeJumps) {
+            return huge_jump(&mut self.dice, time);
+        }
+        let tick = if self.spoilt() {
             self.old_tick()
         } else if self.moves_on() {
             self.later_tick()
         } else {
             time
-        }
+        };
+        within_a_hop(time, tick)
     }
 
     /// Whether the time moves: by habit, and soon where a slide is full.
@@ -263,7 +280,7 @@ impl Random {
     /// A later tick: by one, to the edges of slides and chunks, out of the
     /// window, or over chunks.
     fn later_tick(&mut self) -> u32 {
-        self.drift();
+        self.habits.scene.drift(&mut self.dice);
         let (settings, time) = self.now();
         let (n, b) = (u64::from(settings.n), u64::from(settings.b));
         let k = settings.slide_of(time);
@@ -299,10 +316,12 @@ impl Random {
             return if self.dice.one_in(2) { (a, b) } else { (b, a) };
         }
         let a = self.scene_cell();
-        let b = if self.dice.one_in(20) {
+        let b = if self.strays(Kind::SelfLinks) {
             a
+        } else if self.strays(Kind::FarLinks) {
+            self.habits.scene.far_from(&mut self.dice, a)
         } else {
-            self.other_end(a)
+            self.habits.scene.beside(&mut self.dice, a)
         };
         (self.mirror_for_unit(a), self.mirror_for_unit(b))
     }
@@ -320,7 +339,7 @@ impl Random {
                 let (_, b) = self.dice.pick(&self.recent);
                 (first, self.mirror_for_unit(b))
             }
-            4 => (first, self.dice.below(u64::from(CELLS)) as u32),
+            4 => (first, self.dice.cell()),
             _ => (first, self.scene_cell()),
         }
     }
@@ -331,34 +350,7 @@ impl Random {
     }
 
     fn scene_cell(&mut self) -> u32 {
-        match &self.habits.scene {
-            Scene::Pool(cells) => self.dice.pick(cells),
-            Scene::Things(middles) => {
-                let mut cell = self.dice.pick(middles);
-                for _ in 0..self.dice.below(3) {
-                    cell = touching_cell(&mut self.dice, cell);
-                }
-                cell
-            }
-        }
-    }
-
-    fn other_end(&mut self, a: u32) -> u32 {
-        match self.habits.scene {
-            Scene::Pool(_) => self.scene_cell(),
-            Scene::Things(_) => touching_cell(&mut self.dice, a),
-        }
-    }
-
-    /// The things seen move on a little.
-    fn drift(&mut self) {
-        if let Scene::Things(middles) = &mut self.habits.scene {
-            for middle in middles {
-                if self.dice.one_in(2) {
-                    *middle = touching_cell(&mut self.dice, *middle);
-                }
-            }
-        }
+        self.habits.scene.cell(&mut self.dice)
     }
 
     fn remember(&mut self, a: u32, b: u32) {
@@ -429,6 +421,13 @@ fn short_log(dice: &mut Dice) -> usize {
     dice.pick(&[0, 1, LOG_PLACES / 2, LOG_PLACES - 1, any])
 }
 
+/// A tick after which only a few slides are left.
+fn tick_near_the_last(dice: &mut Dice, settings: Settings) -> u32 {
+    let few_slides = 3 * u64::from(settings.n) * u64::from(settings.b);
+    let back = dice.below(few_slides + 1).min(u64::from(u32::MAX));
+    settings.t0.max(u32::MAX - back as u32)
+}
+
 /// Settings that are taken: all n, both mountings, small and huge B, T0 near
 /// either end of the range and between.
 pub fn draw_settings(dice: &mut Dice) -> Settings {
@@ -480,21 +479,19 @@ pub(crate) fn spoil_settings(dice: &mut Dice, good: Settings) -> Settings {
 
 fn draw_habits(dice: &mut Dice, kind: Kind) -> Habits {
     let kind = match kind {
-        Kind::Mixed => dice.pick(&[Kind::Few, Kind::Few, Kind::All, Kind::Touching]),
-        one => one,
+        Kind::Few | Kind::All | Kind::Touching => kind,
+        _ => dice.pick(&[Kind::Few, Kind::Few, Kind::All, Kind::Touching]),
     };
     let scene = match kind {
-        Kind::All => Scene::Pool((0..CELLS).collect()),
-        Kind::Touching => {
-            let things = dice.between(1, 6);
-            Scene::Things((0..things).map(|_| dice.below(1024) as u32).collect())
-        }
-        _ => Scene::Pool(draw_pool(dice)),
+        Kind::All => Scene::All,
+        Kind::Touching => Scene::things(dice),
+        _ => Scene::few(dice),
     };
     let in_bursts = dice.one_in(if kind == Kind::All { 6 } else { 25 });
     let spoils = dice.pick(&[0, 100, 30, 10, 3]);
     Habits {
         scene,
+        strays: dice.pick(&[2, 4, 10]),
         questions: dice.pick(&[20, 40, 60, 80]),
         moves: dice.pick(&[1, 3, 6, 12, 30, 60]),
         creeps: dice.one_in(3),
@@ -508,33 +505,4 @@ fn draw_habits(dice: &mut Dice, kind: Kind) -> Habits {
             dice.between(20, 600)
         },
     }
-}
-
-/// 4 to 40 cells: neighbours in number, any, or the corners among them.
-fn draw_pool(dice: &mut Dice) -> Vec<u32> {
-    let size = dice.between(4, 40) as usize;
-    if dice.one_in(3) {
-        let start = dice.below(u64::from(CELLS) - size as u64 + 1) as u32;
-        return (start..start + size as u32).collect();
-    }
-    let mut pool = dice.shuffled_cells();
-    if dice.one_in(3) {
-        pool.retain(|cell| ![0, 63, 960, 1023].contains(cell));
-        pool.splice(0..0, [0, 63, 960, 1023]);
-    }
-    pool.truncate(size);
-    pool
-}
-
-/// A cell that touches this one: the next sector of its ring, either way
-/// round, or the same sector of the next ring in or out.
-pub(crate) fn touching_cell(dice: &mut Dice, cell: u32) -> u32 {
-    let (ring, sector) = (cell / SECTORS, cell % SECTORS);
-    let (ring, sector) = match dice.below(4) {
-        0 => (ring, (sector + 1) % SECTORS),
-        1 => (ring, (sector + SECTORS - 1) % SECTORS),
-        2 => ((ring + 1).min(RINGS - 1), sector),
-        _ => (ring.saturating_sub(1), sector),
-    };
-    SECTORS * ring + sector
 }

@@ -172,13 +172,13 @@ fn grids_have_long_chains_with_ties() {
     for n in [1, 2, 8, 16] {
         let calls = built::grid(settings(n, 2), 5, 3);
         let reached = run(&calls);
-        // From corner to corner: 2 (side - 1) links.
-        let side = match n {
-            1 => 11,
-            2 => 16,
-            _ => 32,
+        // From corner to corner: over 15 rings and all columns but one.
+        let columns = match n {
+            1 => 8,
+            2 => 17,
+            _ => 64,
         };
-        assert!(reached.cells > 2 * (side - 1), "n {}", n);
+        assert!(reached.cells >= 15 + columns, "n {}", n);
     }
 }
 
@@ -224,6 +224,9 @@ fn all_built_streams_run() {
         ("grid", 32),
         ("full log", 32),
         ("last ticks", 32),
+        ("far links", 32),
+        ("self links", 32),
+        ("huge jumps", 32),
     ] {
         let of = |stream: &&(String, Vec<Call>)| stream.0.starts_with(what);
         assert!(streams.iter().filter(of).count() >= least, "{}", what);
@@ -232,7 +235,7 @@ fn all_built_streams_run() {
     for (name, calls) in &streams {
         let reached = run(calls);
         assert!(reached.yes > 0, "{}", name);
-        let full = name.starts_with("full log");
+        let full = name.starts_with("full log") || name.starts_with("self links");
         assert_eq!(reached.full_slides > 0, full, "{}", name);
         most.steps_itself = most.steps_itself.max(reached.steps_itself);
         most.steps_two = most.steps_two.max(reached.steps_two);

@@ -64,7 +64,7 @@ fn changed(dice: &mut Dice, left: &[State]) -> Altered {
     for _ in 0..dice.below(4) {
         change(dice, &mut state);
     }
-    let mut cells: Vec<u32> = (0..12).map(|_| any_cell(dice)).collect();
+    let mut cells: Vec<u32> = (0..12).map(|_| dice.cell()).collect();
     let entries = state.log.iter().filter(|&&entry| entry != 0);
     cells.extend(entries.map(|&entry| u32::from(entry) % CELLS).take(30));
     Altered {
@@ -77,11 +77,11 @@ fn changed(dice: &mut Dice, left: &[State]) -> Altered {
 /// One field gets another value of its range, or some of the log.
 fn change(dice: &mut Dice, state: &mut State) {
     let book = &mut state.book;
-    let cell = any_cell(dice) as usize;
+    let cell = dice.cell() as usize;
     match dice.below(12) {
-        0 => book.forward_parent[cell] = any_cell(dice) as u16,
+        0 => book.forward_parent[cell] = dice.cell() as u16,
         1 => book.forward_size[cell] = any_size(dice),
-        2 => book.backward_parent[cell] = any_cell(dice) as u16,
+        2 => book.backward_parent[cell] = dice.cell() as u16,
         3 => book.backward_size[cell] = any_size(dice),
         4 => book.backward_label[cell] = dice.below(16) as u8,
         5 => book.counts[dice.below(32) as usize] = any_count(dice),
@@ -170,7 +170,7 @@ fn too_deep(dice: &mut Dice) -> Altered {
 fn one_field_outside(dice: &mut Dice) -> Altered {
     let mut altered = in_range(dice);
     let book = &mut altered.state.book;
-    let cell = any_cell(dice) as usize;
+    let cell = dice.cell() as usize;
     match dice.below(10) {
         0 => book.clock.b = 0,
         1 => {

@@ -3,6 +3,8 @@
 
 use crate::state::State;
 use oracle::{CHAIN_PLACES, LOG_PLACES};
+use streams::hops::{huge_jump, within_a_hop};
+use streams::touching::{far_cell, touching_cell};
 use streams::{draw_settings, Call, Dice, MOST_LOG_PLACES};
 
 /// One argument in so many is spoilt.
@@ -21,12 +23,15 @@ pub fn draw(dice: &mut Dice, state: &State, cells: &[u32]) -> Call {
                 log_places: draw_log_places(dice),
             }
         }
-        1..=7 => Call::Link {
-            tick: draw_tick(dice, state),
-            a: draw_cell(dice, cells),
-            b: draw_cell(dice, cells),
-            log_places: draw_log_places(dice),
-        },
+        1..=7 => {
+            let (a, b) = draw_link(dice, cells);
+            Call::Link {
+                tick: draw_tick(dice, state),
+                a: spoil(dice, a),
+                b: spoil(dice, b),
+                log_places: draw_log_places(dice),
+            }
+        }
         8..=11 => Call::Clock {
             tick: draw_tick(dice, state),
             log_places: draw_log_places(dice),
@@ -49,12 +54,35 @@ pub fn draw(dice: &mut Dice, state: &State, cells: &[u32]) -> Call {
 }
 
 fn draw_cell(dice: &mut Dice, cells: &[u32]) -> u32 {
-    if dice.one_in(SPOILT) {
-        dice.pick(&[1024, 65_535])
-    } else if dice.one_in(10) {
-        dice.below(1024) as u32
+    let cell = draw_good_cell(dice, cells);
+    spoil(dice, cell)
+}
+
+/// The ends of a link: two cells that touch, now and then a cell and itself or two
+/// cells far from one another.
+fn draw_link(dice: &mut Dice, cells: &[u32]) -> (u32, u32) {
+    let one = draw_good_cell(dice, cells);
+    let other = match dice.below(10) {
+        0 => one,
+        1 => far_cell(dice, one),
+        _ => touching_cell(dice, one),
+    };
+    (one, other)
+}
+
+fn draw_good_cell(dice: &mut Dice, cells: &[u32]) -> u32 {
+    if dice.one_in(10) {
+        dice.cell()
     } else {
         dice.pick(cells)
+    }
+}
+
+fn spoil(dice: &mut Dice, cell: u32) -> u32 {
+    if dice.one_in(SPOILT) {
+        dice.pick(&[1024, 65_535])
+    } else {
+        cell
     }
 }
 
@@ -67,10 +95,13 @@ fn draw_log_places(dice: &mut Dice) -> usize {
 }
 
 /// The book's time, or a later tick of the slide, the chunk, the next chunk or
-/// one after it; sometimes an earlier one.
+/// one after it, within a hop; sometimes an earlier one, or a huge jump.
 fn draw_tick(dice: &mut Dice, state: &State) -> u32 {
     let clock = &state.book.clock;
     let (n, b) = (u64::from(clock.n), u64::from(clock.b));
+    if dice.one_in(30) {
+        return huge_jump(dice, clock.time);
+    }
     let later = match dice.below(10) {
         0 => return clock.time.saturating_sub(dice.between(1, 3) as u32),
         1..=3 => 0,
@@ -80,5 +111,5 @@ fn draw_tick(dice: &mut Dice, state: &State) -> u32 {
         _ => b * n * dice.between(1, 3),
     };
     let tick = u64::from(clock.time) + later;
-    u32::try_from(tick).unwrap_or(clock.time)
+    within_a_hop(clock.time, u32::try_from(tick).unwrap_or(clock.time))
 }

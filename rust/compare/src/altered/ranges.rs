@@ -1,7 +1,8 @@
 //! The fields of a book drawn from their ranges, and a log for it. They need not
 //! agree with one another.
 
-use oracle::{Settings, CELLS};
+use oracle::Settings;
+use streams::touching::patch;
 use streams::{Dice, MOST_LOG_PLACES};
 
 /// Trees over some of the cells: one walk has so many steps, where there are
@@ -113,17 +114,13 @@ pub fn draw_time(dice: &mut Dice, settings: Settings) -> u32 {
     settings.t0 + later as u32
 }
 
-/// A few cells, so that links and steps meet, or all.
+/// A few cells that hang together, so that links and steps meet, or all.
 pub fn draw_cells(dice: &mut Dice) -> Vec<u32> {
-    let mut cells = dice.shuffled_cells();
-    if !dice.one_in(6) {
-        cells.truncate(dice.between(4, 40) as usize);
+    if dice.one_in(6) {
+        return dice.shuffled_cells();
     }
-    cells
-}
-
-pub fn any_cell(dice: &mut Dice) -> u32 {
-    dice.below(u64::from(CELLS)) as u32
+    let (first, size) = (dice.cell(), dice.between(4, 40) as usize);
+    patch(dice, first, size)
 }
 
 pub fn any_size(dice: &mut Dice) -> u16 {

@@ -4,9 +4,11 @@ use super::books::KINDS;
 use super::order::{disorder, REASONS};
 use super::said;
 use crate::fields::spot;
+use crate::seen::{hop, HOPS};
 use crate::state::State;
 use crate::tally::{number, span, Spans, Tally, NUMBERS};
 use oracle::{CHAIN_PLACES, LOG_PLACES};
+use streams::touching::far;
 use streams::{Answer, Call};
 
 const STEPS: &Spans = &[
@@ -31,6 +33,8 @@ pub fn tally() -> Tally {
             "time moved",
             &["within the chunk", "to the next", "over chunks"],
         ),
+        ("ticks moved", &HOPS),
+        ("link taken", &["touching", "far", "of a cell with itself"]),
         (
             "link's slide, before",
             &[
@@ -82,8 +86,14 @@ pub fn count(tally: &mut Tally, before: &State, after: &State, call: &Call, answ
 
 fn count_done(tally: &mut Tally, before: &State, after: &State, call: &Call, answer: &Answer) {
     match (call, answer) {
-        (Call::Link { tick, .. }, _) => {
+        (Call::Link { tick, a, b, .. }, _) => {
             count_time(tally, before, *tick);
+            let kind = match (a == b, far(*a, *b)) {
+                (true, _) => "of a cell with itself",
+                (_, true) => "far",
+                _ => "touching",
+            };
+            tally.count("link taken", kind);
             tally.count("link's slide, before", slide_before(before, *tick));
             let order = match disorder(&after.book) {
                 None => "still in order",
@@ -124,6 +134,7 @@ fn count_time(tally: &mut Tally, before: &State, tick: u32) {
         _ => "over chunks",
     };
     tally.count("time moved", moved);
+    tally.count("ticks moved", hop(before.book.clock.time, tick));
 }
 
 fn slide_before(before: &State, tick: u32) -> &'static str {

@@ -1,4 +1,7 @@
 //! Helpers of the tests: shorter calls with buffers that are long enough.
+//!
+//! Links are of cells that touch and ticks less than 2^31 from the book's time, but
+//! in `far_self_and_huge.rs`. The four cells 1, 2, 65 and 66 touch one another.
 #![allow(dead_code)]
 
 use oracle::*;
@@ -92,6 +95,17 @@ impl Dice {
     }
 }
 
+/// The cells of a random book, in the unit's numbers: a strip of the first two
+/// rings, sector by sector. Each touches the next and the one after that.
+pub fn strip(place: u32) -> u32 {
+    SECTORS * (place % 2) + place / 2
+}
+
+/// A cell of a random book over so many, in the lorry's numbers.
+pub fn cell_of(dice: &mut Dice, book: &Book, cells: u32) -> u32 {
+    in_lorrys_numbers(strip(dice.below(cells)), history(book).settings.mounting)
+}
+
 /// A random book over a few cells, its time somewhere in a later chunk.
 pub fn random_book(dice: &mut Dice, cells: u32) -> Book {
     let n = 1 + dice.below(6);
@@ -105,7 +119,10 @@ pub fn random_book(dice: &mut Dice, cells: u32) -> Book {
             0
         };
         let tick = history(&book).time + jump;
-        let (a, b) = (dice.below(cells), dice.below(cells));
+        let first = dice.below(cells - 1);
+        let second = (first + 1 + dice.below(2)).min(cells - 1);
+        let (a, b) = (strip(first), strip(second));
+        let (a, b) = if dice.below(2) == 0 { (a, b) } else { (b, a) };
         assert_eq!(link(&mut book, tick, a, b), 0);
     }
     book
