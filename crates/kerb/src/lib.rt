@@ -3,19 +3,17 @@
 // fields where they stand, so that no copy of the book is made; include/kerb.h and rust/kerb put them together again, as calls
 // over one book.
 use book::fields;
-use book::fields::FieldsAnswer;
 use book_joined::JoinedAnswer;
 use book_state::Book;
 use chain::ChainAnswer;
 use file::Reading;
 use listing::Listed;
 use settings::Settings;
-use slides::Clock;
 ghost use mathlib.Core.Path.{_≡_};
 ghost use lib.ListN.{length};
-ghost use Rattle.book_state.specs.Order.{neverOpened, bookOf};
+ghost use Rattle.book_state.specs.Order.{neverOpened};
 ghost use Rattle.book_joined.specs.Joined.{joinedOf};
-ghost use Rattle.book.specs.Calls.{GivesFields, openingOf, linkOf, clockOf};
+ghost use Rattle.book.specs.Calls.{Gives, openingOf, linkOf, clockOf};
 ghost use Rattle.chain.specs.Chain.{chainOf, GivesChain};
 ghost use Rattle.file.specs.Format.{readOf, writeNumber, outputOf};
 ghost use Rattle.listing.specs.Listing.{listingOf, Lists};
@@ -30,123 +28,86 @@ pub extern "C" fn kerb_value_never_opened() -> Book
 
 // A fresh history, whatever the book was.
 #[no_mangle]
-pub extern "C" fn kerb_lent_opening(
-    clock: Clock,
-    mounting: u8,
-    counts: &mut [u16; 32],
-    forward_parent: &mut [u16; 1024],
-    forward_size: &mut [u16; 1024],
-    backward_parent: &mut [u16; 1024],
-    backward_size: &mut [u16; 1024],
-    backward_label: &mut [u8; 1024],
-    log: &mut [u16],
-    s: Settings,
-) -> FieldsAnswer
-    ensures { λ r. ⌜ GivesFields (openingOf (bookOf clock mounting (now (counts .entry)) (now («forward_parent» .entry)) (now («forward_size» .entry)) (now («backward_parent» .entry)) (now («backward_size» .entry)) (now («backward_label» .entry))) (now (log .entry)) s) r (now (counts .exit)) (now («forward_parent» .exit)) (now («forward_size» .exit)) (now («backward_parent» .exit)) (now («backward_size» .exit)) (now («backward_label» .exit)) (now (log .exit)) ⌝ }
+pub extern "C" fn kerb_opening(book: &mut Book, log: &mut [u16], s: Settings) -> u8
+    ensures { λ r. ⌜ Gives (openingOf (now (book .entry)) (now (log .entry)) s) (record { book = now (book .exit); number = r }) (now (log .exit)) ⌝ }
 {
-    fields::opening(
-        clock,
-        mounting,
-        counts,
-        forward_parent,
-        forward_size,
-        backward_parent,
-        backward_size,
-        backward_label,
+    let opened = fields::opening(
+        book.clock,
+        book.mounting,
+        &mut book.counts,
+        &mut book.forward_parent,
+        &mut book.forward_size,
+        &mut book.backward_parent,
+        &mut book.backward_size,
+        &mut book.backward_label,
         log,
         s,
-    )
+    );
+    book.clock = opened.clock;
+    book.mounting = opened.mounting;
+    opened.number
 }
 
 // A link of two cells of the unit.
 #[no_mangle]
-pub extern "C" fn kerb_lent_link(
-    clock: Clock,
-    mounting: u8,
-    counts: &mut [u16; 32],
-    forward_parent: &mut [u16; 1024],
-    forward_size: &mut [u16; 1024],
-    backward_parent: &mut [u16; 1024],
-    backward_size: &mut [u16; 1024],
-    backward_label: &mut [u8; 1024],
-    log: &mut [u16],
-    tick: u32,
-    one: u16,
-    other: u16,
-) -> FieldsAnswer
-    ensures { λ r. ⌜ GivesFields (linkOf (bookOf clock mounting (now (counts .entry)) (now («forward_parent» .entry)) (now («forward_size» .entry)) (now («backward_parent» .entry)) (now («backward_size» .entry)) (now («backward_label» .entry))) (now (log .entry)) tick one other) r (now (counts .exit)) (now («forward_parent» .exit)) (now («forward_size» .exit)) (now («backward_parent» .exit)) (now («backward_size» .exit)) (now («backward_label» .exit)) (now (log .exit)) ⌝ }
+pub extern "C" fn kerb_link(book: &mut Book, log: &mut [u16], tick: u32, one: u16, other: u16) -> u8
+    ensures { λ r. ⌜ Gives (linkOf (now (book .entry)) (now (log .entry)) tick one other) (record { book = now (book .exit); number = r }) (now (log .exit)) ⌝ }
 {
-    fields::link(
-        clock,
-        mounting,
-        counts,
-        forward_parent,
-        forward_size,
-        backward_parent,
-        backward_size,
-        backward_label,
+    let linked = fields::link(
+        book.clock,
+        book.mounting,
+        &mut book.counts,
+        &mut book.forward_parent,
+        &mut book.forward_size,
+        &mut book.backward_parent,
+        &mut book.backward_size,
+        &mut book.backward_label,
         log,
         tick,
         one,
         other,
-    )
+    );
+    book.clock = linked.clock;
+    book.mounting = linked.mounting;
+    linked.number
 }
 
 // The time moves to the tick, and nothing is logged.
 #[no_mangle]
-pub extern "C" fn kerb_lent_clock(
-    clock: Clock,
-    mounting: u8,
-    counts: &mut [u16; 32],
-    forward_parent: &mut [u16; 1024],
-    forward_size: &mut [u16; 1024],
-    backward_parent: &mut [u16; 1024],
-    backward_size: &mut [u16; 1024],
-    backward_label: &mut [u8; 1024],
-    log: &[u16],
-    tick: u32,
-) -> FieldsAnswer
-    ensures { λ r. ⌜ GivesFields (clockOf (bookOf clock mounting (now (counts .entry)) (now («forward_parent» .entry)) (now («forward_size» .entry)) (now («backward_parent» .entry)) (now («backward_size» .entry)) (now («backward_label» .entry))) (now (log .entry)) tick) r (now (counts .exit)) (now («forward_parent» .exit)) (now («forward_size» .exit)) (now («backward_parent» .exit)) (now («backward_size» .exit)) (now («backward_label» .exit)) (now (log .entry)) ⌝ }
+pub extern "C" fn kerb_clock(book: &mut Book, log: &[u16], tick: u32) -> u8
+    ensures { λ r. ⌜ Gives (clockOf (now (book .entry)) (now (log .entry)) tick) (record { book = now (book .exit); number = r }) (now (log .entry)) ⌝ }
 {
-    fields::clock(
-        clock,
-        mounting,
-        counts,
-        forward_parent,
-        forward_size,
-        backward_parent,
-        backward_size,
-        backward_label,
+    let moved = fields::clock(
+        book.clock,
+        book.mounting,
+        &mut book.counts,
+        &mut book.forward_parent,
+        &mut book.forward_size,
+        &mut book.backward_parent,
+        &mut book.backward_size,
+        &mut book.backward_label,
         log,
         tick,
-    )
+    );
+    book.clock = moved.clock;
+    book.mounting = moved.mounting;
+    moved.number
 }
 
 // Whether the window's links join the two cells, and the steps of the walks.
 #[no_mangle]
-pub extern "C" fn kerb_lent_joined<'a>(
-    clock: Clock,
-    mounting: u8,
-    counts: &'a [u16; 32],
-    forward_parent: &'a [u16; 1024],
-    forward_size: &'a [u16; 1024],
-    backward_parent: &'a [u16; 1024],
-    backward_size: &'a [u16; 1024],
-    backward_label: &'a [u8; 1024],
-    one: u16,
-    other: u16,
-) -> JoinedAnswer
-    ensures { λ r. ⌜ r ≡ joinedOf (bookOf clock mounting (now (counts .entry)) (now («forward_parent» .entry)) (now («forward_size» .entry)) (now («backward_parent» .entry)) (now («backward_size» .entry)) (now («backward_label» .entry))) one other ⌝ }
+pub extern "C" fn kerb_joined(book: &Book, one: u16, other: u16) -> JoinedAnswer
+    ensures { λ r. ⌜ r ≡ joinedOf (now (book .entry)) one other ⌝ }
 {
     book_joined::over_fields(
-        clock,
-        mounting,
-        counts,
-        forward_parent,
-        forward_size,
-        backward_parent,
-        backward_size,
-        backward_label,
+        book.clock,
+        book.mounting,
+        &book.counts,
+        &book.forward_parent,
+        &book.forward_size,
+        &book.backward_parent,
+        &book.backward_size,
+        &book.backward_label,
         one,
         other,
     )
