@@ -3,7 +3,7 @@
 use kerb::calls::{ChainAnswer, JoinedAnswer};
 use kerb::Settings;
 
-/// A book of links, in one way or another. Each call gives the number of document 01's table, 0 when it was done.
+/// A book of links, in one way or another. Each call gives the number of the table (RULES 7), 0 when it was done.
 pub trait AnyBook {
     /// Whether it counts the steps of the four walks.
     const COUNTS_STEPS: bool;

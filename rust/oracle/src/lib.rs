@@ -3,12 +3,12 @@
 //! This program was written from that page alone. It keeps the plain list of
 //! all accepted links and searches the window's links afresh for every
 //! question. The two forests are built for the step counts only, link by link
-//! as the page says, and thrown away again. Nothing is remembered from one
+//! as the rules say, and thrown away again. Nothing is remembered from one
 //! question to the next.
 //!
 //! Every call gives `Ok` with its result fields, or `Err` with the refusal.
 //! "With a refusal the other result fields are 0" is then
-//! `answer.unwrap_or_default()`, and the number of the page's table is
+//! `answer.unwrap_or_default()`, and the number of the table in RULES 7 is
 //! `number(&answer)`.
 //!
 //! Altered books are not treated here: number 1 is given only for a book that

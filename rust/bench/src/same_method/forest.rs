@@ -1,4 +1,4 @@
-//! The forests in arrays, and number 1 of document 01 for one forest.
+//! The forests in arrays, and number 1 (RULES 7.8) for one forest.
 
 pub const CELLS: usize = 1024;
 /// No walk may exceed this many steps.
