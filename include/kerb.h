@@ -1,15 +1,28 @@
 /*
  * The book of links for one blind-spot lidar, for C (C99 and later) and C++.
  *
- * Link with the static library libkerb.a (`rt staticlib kerb`). Every call answers every input: what it can't do it refuses by a
- * number of `enum kerb_number`, and then the book and all lent places are as they were and the other fields of the answer
- * are 0. What each call gives, number by number, is in docs/CONTRACTS.md and docs/BOOK.md.
+ *     static struct kerb_book book;                      (all zero bytes: a book that was never opened)
+ *     static uint16_t log[KERB_LOG_PLACES];
+ *     struct kerb_settings settings = {.t0 = now, .b = 100, .n = 8, .mounting = KERB_PLAIN};
  *
- * What the proofs take for granted of a caller in C: a pointer stands for as many places as the length beside it says, is not NULL
- * (also where the length is 0), and is aligned for its type; what a call writes to overlaps nothing else that the call is
- * lent; and the stack has room (docs/BENCH.md has the figures).
+ *     uint8_t number = kerb_opening(&book, KERB_PLACES(log), settings);
+ *     number = kerb_link(&book, KERB_PLACES(log), tick, one, other);
+ *     if (!kerb_joined(&book, walker, body).yes) ...     (light the lamp)
  *
- * The calls at the end of this file keep the book where it is: kerb_link(&book, log, log_len, tick, one, other).
+ * Link with libkerb.a, which wants no more of the C library than memcpy, memmove and memset. Every function answers every input.
+ * What it cannot do it refuses by a number of `enum kerb_number`, and then the book and all lent places are as they were and
+ * the other fields of the answer are 0 (kerb_play alone keeps the records before the one that it refuses). Beside each
+ * function stand its refusals in the order in which they are asked, and the stack that it takes at most.
+ *
+ * What the proofs take for granted of a caller in C:
+ *   - a pointer is not NULL (not even where its length is 0), is aligned for its type, and stands for as many places as the
+ *     length beside it says. LENGTHS COUNT PLACES, NOT BYTES: `sizeof log` compiles and is wrong. KERB_PLACES(log) hands
+ *     over an array and its length in one;
+ *   - what a call writes to overlaps nothing else that the call is lent;
+ *   - the stack has room;
+ *   - two threads do not use one book at once, unless both only ask.
+ *
+ * A book has no padding and no pointer in it: its bytes can be copied, stored over a battery swap and compared.
  */
 #ifndef KERB_H
 #define KERB_H
@@ -17,6 +30,21 @@
 #include <stdbool.h>
 #include <stddef.h>
 #include <stdint.h>
+
+/* The version of this header. kerb_version() gives that of the library: see KERB_OPENS_WITH below. */
+#define KERB_VERSION 2u
+
+/* A number that nobody looks at is an alarm that nobody hears: the compiler warns where it can. */
+#if defined(__GNUC__) || defined(__clang__)
+#define KERB_LOOK_AT __attribute__((warn_unused_result))
+#elif defined(_MSC_VER)
+#define KERB_LOOK_AT _Check_return_
+#else
+#define KERB_LOOK_AT
+#endif
+
+/* An array and how many places it has, for two neighbouring arguments. For arrays alone: of a pointer it would be wrong. */
+#define KERB_PLACES(array) (array), (sizeof(array) / sizeof((array)[0]))
 
 #ifdef __cplusplus
 extern "C" {
@@ -27,12 +55,13 @@ enum {
     /* places that a log and a chain buffer need */
     KERB_LOG_PLACES = 16384,
     KERB_CHAIN_PLACES = 1024,
-    /* bytes of the longest link file, and the bytes that kerb_list needs for its text */
+    /* bytes of a record, of the longest link file, and of the text that kerb_list needs room for */
+    KERB_RECORD_BYTES = 8,
     KERB_FILE_BYTES = 64024,
     KERB_LISTING_BYTES = 20480
 };
 
-/* The numbers that a call can give. */
+/* The numbers that a call can give. kerb_status_text has them in words. */
 enum kerb_number {
     KERB_DONE = 0,
     KERB_NO_BOOK = 1,     /* the book was never opened, or was altered beyond its ranges */
@@ -59,11 +88,18 @@ struct kerb_settings {
     uint8_t mounting; /* enum kerb_mounting; there is no default */
 };
 
-struct kerb_clock {
+struct kerb_time {
     uint32_t t0;
     uint32_t b;
     uint32_t time; /* the latest time */
     uint8_t n;
+    uint8_t pad[3];
+};
+
+/* How the unit is fitted. */
+struct kerb_fitting {
+    uint8_t mounting;
+    uint8_t pad[3];
 };
 
 /* The book. docs/BOOK.md has each field's range; a caller has no need to read or write them. */
@@ -73,128 +109,54 @@ struct kerb_book {
     uint16_t backward_parent[KERB_CELLS];
     uint16_t backward_size[KERB_CELLS];
     uint16_t counts[32];
-    struct kerb_clock clock;
+    struct kerb_time clock;
     uint8_t backward_label[KERB_CELLS];
-    uint8_t mounting;
+    struct kerb_fitting fitting;
 };
 
-/* What opening, link and clock give: the book's clock and mounting after the call, and the number. */
-struct kerb_lent {
-    struct kerb_clock clock;
-    uint8_t mounting;
-    uint8_t number;
-};
-
-struct kerb_joined {
+struct kerb_joined_answer {
     uint8_t number;
     bool yes;
     uint8_t steps; /* the sum of the four walks, at most 40 */
 };
 
-struct kerb_chain {
-    uint64_t newest; /* L: links of this slide and later ones chain the two, and those of the next slide on do not */
+struct kerb_chain_answer {
+    uint64_t newest; /* L: links of this slide and later ones chain the two, and those of the next slide on do not;
+                        one above the open slide for a cell and itself, which need no link */
     uint16_t cells;  /* how many cells stand at the front of the chain buffer */
-    uint8_t hold;    /* for how many further closings the two stay joined */
+    uint8_t hold;    /* for how many further closings the two stay joined; n for a cell and itself: always */
     uint8_t number;
 };
 
-struct kerb_reading {
+struct kerb_read_answer {
     struct kerb_settings settings;
     uint32_t m; /* how many records: they are the first 8m bytes of the file */
     uint8_t number;
 };
 
-struct kerb_listed {
+struct kerb_play_answer {
+    uint32_t taken; /* how many records were taken; with a number of the link call it is the place of the one refused */
+    uint8_t number;
+};
+
+struct kerb_list_answer {
     size_t length; /* how many bytes of text stand at the front of the output */
     uint8_t number;
 };
 
-/* The proved functions of libkerb.a over a book, which is lent to them field by field, where it stands, or by value. A caller wants
- * the calls at the end of this file, which put a book's fields in order. */
-struct kerb_book kerb_value_never_opened(void);
-struct kerb_lent kerb_lent_opening(struct kerb_clock clock, uint8_t mounting, uint16_t *counts,
-    uint16_t *forward_parent, uint16_t *forward_size, uint16_t *backward_parent,
-    uint16_t *backward_size, uint8_t *backward_label, uint16_t *log, size_t log_len,
-    struct kerb_settings settings);
-struct kerb_lent kerb_lent_link(struct kerb_clock clock, uint8_t mounting, uint16_t *counts,
-    uint16_t *forward_parent, uint16_t *forward_size, uint16_t *backward_parent,
-    uint16_t *backward_size, uint8_t *backward_label, uint16_t *log, size_t log_len, uint32_t tick,
-    uint16_t one, uint16_t other);
-struct kerb_lent kerb_lent_clock(struct kerb_clock clock, uint8_t mounting, uint16_t *counts,
-    uint16_t *forward_parent, uint16_t *forward_size, uint16_t *backward_parent,
-    uint16_t *backward_size, uint8_t *backward_label, const uint16_t *log, size_t log_len,
-    uint32_t tick);
-struct kerb_joined kerb_lent_joined(struct kerb_clock clock, uint8_t mounting, const uint16_t *counts,
-    const uint16_t *forward_parent, const uint16_t *forward_size, const uint16_t *backward_parent,
-    const uint16_t *backward_size, const uint8_t *backward_label, uint16_t one, uint16_t other);
-struct kerb_chain kerb_value_chain(struct kerb_book book, const uint16_t *log, size_t log_len, uint16_t one, uint16_t other,
-    uint16_t *chain, size_t chain_len);
+struct kerb_groups_answer {
+    uint32_t links; /* how many links the window holds, repeats counted */
+    uint8_t number;
+};
 
-/* The settings of a link file, and its number of records. */
-struct kerb_reading kerb_read(const uint8_t *file, size_t file_len);
+struct kerb_record {
+    uint32_t tick;
+    uint16_t one; /* in the unit's numbers */
+    uint16_t other;
+};
 
-/* A link file of these settings and record bytes, at the front of the output: records_len + 24 bytes. Gives the number. */
-uint8_t kerb_write(struct kerb_settings settings, const uint8_t *records, size_t records_len, uint8_t *out, size_t out_len);
-
-/* What kerblist prints for a link file, at the front of the output. The number is KERB_SHORT for an output under
- * KERB_LISTING_BYTES and else KERB_DONE: a file that is refused is a line of the text. */
-struct kerb_listed kerb_list(const uint8_t *file, size_t file_len, uint8_t *out, size_t out_len);
-
-#ifdef __cplusplus
-}
-#endif
-
-/* The fields of a book in the order in which the functions above are lent them: said here, and nowhere else. */
-#define KERB_FIELDS(book) \
-    (book)->clock, (book)->mounting, (book)->counts, (book)->forward_parent, (book)->forward_size, \
-        (book)->backward_parent, (book)->backward_size, (book)->backward_label
-
-/* The clock and the mounting are lent by value, so they come back in the answer. */
-static inline uint8_t kerb_put_back(struct kerb_book *book, struct kerb_lent answer)
-{
-    book->clock = answer.clock;
-    book->mounting = answer.mounting;
-    return answer.number;
-}
-
-/* A book that was never opened. A book that is all zero bytes is one too. */
-static inline void kerb_never_opened(struct kerb_book *book)
-{
-    *book = kerb_value_never_opened();
-}
-
-/* A fresh history, whatever the book was; clears the first 16,384 places of the log. Gives 0, KERB_SETTINGS or KERB_SHORT. */
-static inline uint8_t kerb_opening(struct kerb_book *book, uint16_t *log, size_t log_len, struct kerb_settings settings)
-{
-    return kerb_put_back(book, kerb_lent_opening(KERB_FIELDS(book), log, log_len, settings));
-}
-
-/* A link of two cells, in the unit's numbers, at a tick. */
-static inline uint8_t kerb_link(struct kerb_book *book, uint16_t *log, size_t log_len, uint32_t tick, uint16_t one,
-    uint16_t other)
-{
-    return kerb_put_back(book, kerb_lent_link(KERB_FIELDS(book), log, log_len, tick, one, other));
-}
-
-/* The time moves to the tick, and nothing is logged. */
-static inline uint8_t kerb_clock(struct kerb_book *book, const uint16_t *log, size_t log_len, uint32_t tick)
-{
-    return kerb_put_back(book, kerb_lent_clock(KERB_FIELDS(book), log, log_len, tick));
-}
-
-/* Whether links of the window join the two cells, in the lorry's numbers. */
-static inline struct kerb_joined kerb_joined(const struct kerb_book *book, uint16_t one, uint16_t other)
-{
-    return kerb_lent_joined(KERB_FIELDS(book), one, other);
-}
-
-/* Why, and for how long: the chain from the first cell to the second, in the lorry's numbers. */
-static inline struct kerb_chain kerb_chain(const struct kerb_book *book, const uint16_t *log, size_t log_len, uint16_t one,
-    uint16_t other, uint16_t *chain, size_t chain_len)
-{
-    return kerb_value_chain(*book, log, log_len, one, other, chain, chain_len);
-}
-
-#undef KERB_FIELDS
-
-#endif
+struct kerb_slide_answer {
+    uint32_t first; /* the slide's ticks, from the first to the last */
+    uint32_t last;
+    bool exists; /* whether any tick reaches the slide; else the ticks are 0 */
+};
