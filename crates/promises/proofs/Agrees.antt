@@ -1,4 +1,4 @@
--- When a book and its log agree with a history: the clock and the settings are the history's, each live place of the log
+-- When a book and its log agree with a history: the clock and the mounting are the history's, each live place of the log
 -- holds the links of its slide in order of arrival, and the arrays hold the two forests of RULES 3. Everything that is
 -- promised of books that calls have left follows from this; Keeps shows that calls keep it.
 use Prim.Native.Nat.{ℕ, _+_, _/_, _%_, _≤_, _<_}
@@ -7,14 +7,15 @@ use mathlib.Core.Logic.{_⊎_}
 use mathlib.Core.Bool.{true}
 use mathlib.Core.List.{List, [], _∷_, reverse}
 use lib.ListN.{length, getD}
-use Rattle.settings.specs.Settings.{takenNumber}
+use Rattle.settings.specs.Settings.{heldInRange}
+use Rattle.slides.proofs.Slides.{InRange}
 use Rattle.forest.specs.Arrays.{parentIn, sizeIn, held}
 use Rattle.book_state.specs.Arrays.{cells}
 use Rattle.book_state.specs.Log.{halfOf, spotOf, startOf, linksAt}
 use Rattle.numbers.specs.Checks.{has}
 use Rattle.book_state.specs.Numbers.{logPlaces}
-use Rattle.promises.specs.History.{Stored, History, clockIn, openSlideIn, chunkIn, slideLinks, howMany, linksOf}
-use Rattle.promises.specs.Panel.{State}
+use Rattle.promises.specs.History.{Stored, History, openSlideIn, chunkIn, slideLinks, howMany, linksOf}
+use Rattle.promises.specs.Implementation.{State}
 use Rattle.promises.specs.Demands.{forwardForest, backwardForest}
 
 -- the slides never rise from the front on, and none is above k; both ends of each link are cells
@@ -25,18 +26,18 @@ pub data Falling : ℕ → List Stored → Type 0 where
 
 -- what is true of every history, whatever the book
 pub record Sensible (h : History) : Type 0 where
-  pub taken : takenNumber (h .settings) ≡ 0
-  pub since : h .settings .t0 ≤ h .time
+  pub range : InRange (h .clock)
+  pub held : heldInRange (h .clock .n) (h .clock .b) (h .mounting) ≡ true
   pub falling : Falling (openSlideIn h) (h .links)
   pub few : (t : ℕ) → howMany (slideLinks t (h .links)) ≤ 256
 
 -- slides of the open chunk and of the one before it
 abbrev pub Live : History → ℕ → Type 0
-Live h t = (t / h .settings .n ≡ chunkIn h) ⊎ (t / h .settings .n + 1 ≡ chunkIn h)
+Live h t = (t / h .clock .n ≡ chunkIn h) ⊎ (t / h .clock .n + 1 ≡ chunkIn h)
 
 -- the spot of a slide in the counts and in the log
 abbrev pub spotIn : History → ℕ → ℕ
-spotIn h t = spotOf (halfOf (t / h .settings .n)) (t % h .settings .n)
+spotIn h t = spotOf (halfOf (t / h .clock .n)) (t % h .clock .n)
 
 -- the links of a slide stand in the log, in order of arrival
 pub record Kept (h : History) (s : State) (t : ℕ) : Type 0 where
@@ -45,8 +46,8 @@ pub record Kept (h : History) (s : State) (t : ℕ) : Type 0 where
 
 pub record Agrees (h : History) (s : State) : Type 0 where
   pub sensible : Sensible h
-  pub clock : s .book .clock ≡ clockIn h
-  pub mounting : s .book .mounting ≡ h .settings .mounting
+  pub clock : s .book .clock ≡ h .clock
+  pub mounting : s .book .mounting ≡ h .mounting
   pub room : has logPlaces (s .log) ≡ true
   pub counts-long : length (s .book .counts) ≡ 32
   pub counts-few : (spot : ℕ) → getD (s .book .counts) spot 0 ≤ 256

@@ -32,8 +32,8 @@ use Rattle.book_joined.specs.Joined.{joinedOf}
 use Rattle.window.specs.Window.{windowLinks, linksFromLabel}
 use Rattle.window.proofs.Highest.{chained-highest, highest-chained, highest-most}
 use Rattle.chain.specs.Chain.{ChainOutcome, chainPlaces, labelOf, chainCells, chainNumber, chainByNumber, chainOf}
-use Rattle.promises.specs.History.{clock, History, clockIn, openSlideIn, windowOf, linksSince, numberIn, added, addedByNumber}
-use Rattle.promises.specs.Panel.{ours, State, stateOf, gives, givesChain}
+use Rattle.promises.specs.History.{clock, History, openSlideIn, windowOf, linksSince, numberIn, added, addedByNumber}
+use Rattle.promises.specs.Implementation.{ours, State, stateOf, gives, givesChain}
 use Rattle.promises.specs.Demands.{ChainGiven, DifferentCells, Itself, Answers, Chain}
 use Rattle.promises.proofs.Agrees.{Agrees}
 use Rattle.promises.proofs.Lists.{same-test}
@@ -41,9 +41,8 @@ use Rattle.numbers.proofs.Checks.{first-last, first-under}
 use Rattle.numbers.proofs.Checks.{passes}
 use Rattle.promises.proofs.NumbersAgree.{itself}
 use Rattle.promises.proofs.InOrder.{agrees-in-order}
-use Rattle.promises.proofs.KeptByTime.{slide-then}
 use Rattle.promises.proofs.Keeps.{step, keeps}
-use Rattle.promises.proofs.Closings.{closed, closed-inside, closed-now, closed-fewer, closed-since}
+use Rattle.promises.proofs.Closings.{closed, window-then, closed-inside, closed-now, closed-fewer, closed-since}
 use Rattle.promises.proofs.Window.{none-above, book-window, window-book}
 use Rattle.promises.proofs.JoinedIs.{joined-window}
 
@@ -60,9 +59,9 @@ module _ {h : History} {s : State} (agrees : Agrees h s) (one other : ℕ) where
 
   -- L
   abbrev newest : ℕ
-  newest = openSlideIn h + label - h .settings .n
+  newest = openSlideIn h + label - h .clock .n
 
-  n-is : s .book .clock .n ≡ h .settings .n
+  n-is : s .book .clock .n ≡ h .clock .n
   n-is = ap (λ c. c .n) (agrees .clock)
 
   -- ---- the label and the windows to come
@@ -85,11 +84,11 @@ module _ {h : History} {s : State} (agrees : Agrees h s) (one other : ℕ) where
       let some : 0 < label = omega arith in
       chained-relink (closed-fewer (agrees .sensible) {c = label - 1} (omega arith)) (chained-relink (held-closed some) (label-held some))
 
-  closed-label : (c : ℕ) → c ≤ h .settings .n → Chained (closed h c) one other → c < label
+  closed-label : (c : ℕ) → c ≤ h .clock .n → Chained (closed h c) one other → c < label
   closed-label c le x = chained-highest held one other _ (suc c) (omega (arith, n-is)) (chained-relink (window-book agrees c) x)
 
   -- after n closings no link is left
-  none-left : (c : ℕ) → h .settings .n ≤ c → Chained (closed h c) one other → one ≡ other
+  none-left : (c : ℕ) → h .clock .n ≤ c → Chained (closed h c) one other → one ≡ other
   none-left c le x = chained-alone (λ y l. none-above (s .book) (s .log) (suc c) (omega (arith, n-is)) one y l) (chained-relink (window-book agrees c) x)
 
   label-window : ltb 0 label ≡ chains (windowOf h) one other
@@ -98,34 +97,34 @@ module _ {h : History} {s : State} (agrees : Agrees h s) (one other : ℕ) where
       (λ e. lt-ltb 0 label (closed-label 0 zero-le (rw (closed-now h) (chains-true (windowOf h) one other e))))
 
   -- a cell and itself are chained with no link at all
-  label-itself : one ≡ other → label ≡ suc (h .settings .n)
+  label-itself : one ≡ other → label ≡ suc (h .clock .n)
   label-itself e =
-      omega (arith, n-is, highest-most held one other (suc (s .book .clock .n)), closed-label (h .settings .n) (le-refl _) (same e))
+      omega (arith, n-is, highest-most held one other (suc (s .book .clock .n)), closed-label (h .clock .n) (le-refl _) (same e))
 
   module _ (different : one ≡ other → ⊥) where
     -- two different cells stay chained for fewer closings than the label says
     closed-is : (c : ℕ) → Chained (closed h c) one other ↔ (c < label)
-    closed-is c = (λ x. go (decLe c (h .settings .n)) x, label-closed c)
+    closed-is c = (λ x. go (decLe c (h .clock .n)) x, label-closed c)
       where
-        go : Dec (c ≤ h .settings .n) → Chained (closed h c) one other → c < label
+        go : Dec (c ≤ h .clock .n) → Chained (closed h c) one other → c < label
         go (yes le) x = closed-label c le x
         go (no d) x = absurd (different (none-left c (omega arith) x))
 
-    label-most : label ≤ h .settings .n
-    label-most = go (decLe label (h .settings .n))
+    label-most : label ≤ h .clock .n
+    label-most = go (decLe label (h .clock .n))
       where
-        go : Dec (label ≤ h .settings .n) → label ≤ h .settings .n
+        go : Dec (label ≤ h .clock .n) → label ≤ h .clock .n
         go (yes le) = le
-        go (no d) = absurd (different (none-left (h .settings .n) (le-refl _) (label-closed (h .settings .n) (omega arith))))
+        go (no d) = absurd (different (none-left (h .clock .n) (le-refl _) (label-closed (h .clock .n) (omega arith))))
 
     -- no window starts before slide 0
-    label-least : 0 < label → h .settings .n ≤ openSlideIn h + label
-    label-least l = go (decLe (h .settings .n) (openSlideIn h + label))
+    label-least : 0 < label → h .clock .n ≤ openSlideIn h + label
+    label-least l = go (decLe (h .clock .n) (openSlideIn h + label))
       where
-        whole : (c : ℕ) → openSlideIn h + c < h .settings .n → closed h c ≡ linksSince h 0
+        whole : (c : ℕ) → openSlideIn h + c < h .clock .n → closed h c ≡ linksSince h 0
         whole c young = closed-since (agrees .sensible) c 0 (λ t le. (λ _. zero-le, λ _. omega arith))
 
-        go : Dec (h .settings .n ≤ openSlideIn h + label) → h .settings .n ≤ openSlideIn h + label
+        go : Dec (h .clock .n ≤ openSlideIn h + label) → h .clock .n ≤ openSlideIn h + label
         go (yes le) = le
         go (no d) =
             let on : label < label = closed-is label .0 (rw (whole label (omega arith), ← (whole (label - 1) (omega arith))) (label-closed (label - 1) (omega arith))) in
@@ -136,13 +135,13 @@ module _ {h : History} {s : State} (agrees : Agrees h s) (one other : ℕ) where
   -- the last window that chains the two starts with slide L
   since-newest : (one ≡ other → ⊥) → 0 < label → closed h (label - 1) ≡ linksSince h newest
   since-newest different l =
-      let from : h .settings .n ≤ openSlideIn h + label = label-least different l in
+      let from : h .clock .n ≤ openSlideIn h + label = label-least different l in
       closed-since (agrees .sensible) (label - 1) newest (λ t le. (λ e. omega arith, λ e. omega arith))
 
-  newest-is : 0 < label → newest + h .settings .n ≡ openSlideIn h + label
+  newest-is : 0 < label → newest + h .clock .n ≡ openSlideIn h + label
   newest-is l = go (ℕ-discrete one other)
     where
-      go : Dec (one ≡ other) → newest + h .settings .n ≡ openSlideIn h + label
+      go : Dec (one ≡ other) → newest + h .clock .n ≡ openSlideIn h + label
       go (yes e) = omega (arith, label-itself e)
       go (no different) = omega (arith, label-least different l)
 
@@ -214,11 +213,11 @@ module _ {h : History} {s : State} (agrees : Agrees h s) (one other : ℕ) where
         }
 
     -- c closings later, where a tick reaches that slide
-    later-joined : areCells one other ≡ true → (c tick : ℕ) → slideOf (clockIn h) tick ≡ openSlideIn h + c → notBefore (clockIn h) tick ≡ true →
+    later-joined : areCells one other ≡ true → (c tick : ℕ) → slideOf (h .clock) tick ≡ openSlideIn h + c → notBefore (h .clock) tick ≡ true →
         (joinedOf (gives ours s (clock tick) .book) one other .yes ≡ true) ↔ Chained (closed h c) one other
     unfolding numberIn addedByNumber added
     later-joined are c tick e later =
-        rw (← e, ← (slide-then agrees tick later))
+        rw (← e, ← (window-then h tick later))
         (joined-window (subst (λ b. Agrees (addedByNumber (unless b 4) h (clock tick)) (stateOf (gives ours s (clock tick)))) later (step agrees (clock tick))) one other are)
 
     given-apart : areCells one other ≡ true → 0 < label → (one ≡ other → ⊥) → DifferentCells ours s h one other (given .answer)
@@ -236,8 +235,8 @@ module _ {h : History} {s : State} (agrees : Agrees h s) (one other : ℕ) where
       where
         largest : (m : ℕ) → newest < m → Chained (linksSince h m) one other → ⊥
         largest m above x =
-            let c : ℕ = m + h .settings .n - openSlideIn h - 1 in
-            let from : newest + h .settings .n ≡ openSlideIn h + label = newest-is l in
+            let c : ℕ = m + h .clock .n - openSlideIn h - 1 in
+            let from : newest + h .clock .n ≡ openSlideIn h + label = newest-is l in
             let at : closed h c ≡ linksSince h m = closed-since (agrees .sensible) c m (λ t le. (λ e. omega arith, λ e. omega arith)) in
             let below : c < label = closed-is different c .0 (rw at x) in
             omega arith

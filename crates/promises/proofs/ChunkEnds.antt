@@ -15,10 +15,9 @@ use borrow.Author.Tests.{eq-eqb, ne-eqb, eqb-true, le-leb, leb-true}
 use Rattle.graph.specs.Forest.{Labelled}
 use Rattle.slides.proofs.Slides.{InRange}
 use Rattle.book_state.specs.Log.{halfOf, spotOf, placeLinks, labelled, chunkLinks}
-use Rattle.promises.specs.History.{Stored, History, clockIn, chunkIn, ofSlides, slideLinks, linksOf}
-use Rattle.promises.specs.Panel.{State}
+use Rattle.promises.specs.History.{Stored, History, chunkIn, ofSlides, slideLinks, linksOf}
+use Rattle.promises.specs.Implementation.{State}
 use Rattle.promises.proofs.Agrees.{spotIn, Kept, Agrees}
-use Rattle.promises.proofs.InOrder.{sensible-range}
 use Rattle.promises.proofs.Lists.{map-onto, same-test, fails, none-later, split-at}
 use Rattle.promises.proofs.BySlide.{labelBy}
 
@@ -39,13 +38,13 @@ one-label label t (s ∷ ss) = go (eqb (s .slide) t) refl (one-label label t ss)
 
 module _ {h : History} {s : State} (a : Agrees h s) where
   abbrev n : ℕ
-  n = h .settings .n
+  n = h .clock .n
 
   abbrev q : ℕ
   q = chunkIn h
 
-  range : InRange (clockIn h)
-  range = sensible-range h (a .sensible)
+  range : InRange (h .clock)
+  range = a .sensible .range
 
   -- ---- the slide at place p of the chunk
 

@@ -19,15 +19,15 @@ use Rattle.forest.specs.Arrays.{countFrom}
 use Rattle.forest_check.specs.Sound.{every}
 use Rattle.book_state.specs.Arrays.{united, unitedAll}
 use Rattle.book_state.specs.Log.{linksAt, chunkLinks, stored}
-use Rattle.book_state.specs.Order.{inOrder, inOrderOf}
+use Rattle.book_state.specs.Order.{inOrderOf}
 use Rattle.book_time.specs.Time.{cleared, emptied, stayed, backwardOf, turned, movedByChunk, movedBook}
 use Rattle.numbers.specs.Checks.{firstOf, has}
 use Rattle.book_state.specs.Numbers.{logPlaces}
 use Rattle.book_joined.specs.Joined.{parentSteps, parentStepsAt, stepLinks, fourWalks, joinedNumber, joinedByNumber, joinedOf}
 use Rattle.book.specs.Calls.{openingNumber, openingByNumber, openingOf, linkNumber, linkStored, linkByNumber, linkOf, clockNumber, clockByNumber, clockOf}
 use Rattle.chain.specs.Chain.{chainPlaces}
-use Rattle.promises.specs.History.{Call, opening, link, History, begun, historyFrom, oneMore, firstByNumber, ofSlides, howMany, numberIn, added, addedByNumber, windowOf}
-use Rattle.promises.specs.Panel.{Panel, ours, State, gives, after}
+use Rattle.promises.specs.History.{Call, opening, link, History, begun, withTime, withLink, historyFrom, oneMore, firstByNumber, ofSlides, howMany, numberIn, added, addedByNumber, windowOf}
+use Rattle.promises.specs.Implementation.{Implementation, ours, State, gives, after}
 use Rattle.promises.specs.Demands.{HasHistory, Table, Refused, Joined, Chain}
 use Rattle.promises.specs.Fakes.{refusing, fixedJoined, inventive, fixedChain, chainless, forgotten, forgetful, idle}
 use Rattle.promises.proofs.Table.{table}
@@ -96,18 +96,18 @@ abbrev late : List Call
 late = opening settings ∷ link 45 4 5 ∷ []
 
 abbrev then : History
-then = record { settings = settings; time = 45; links = record { slide = 4; link = record { one = 4; other = 5 } } ∷ [] }
+then = withLink (withTime (begun settings) 45) (record { one = 4; other = 5 })
 
 told-late : HasHistory start late then
-unfolding historyFrom oneMore firstByNumber firstOf has numberIn addedByNumber added notBefore slideOf howMany ofSlides lorryCellOver
+unfolding historyFrom oneMore firstByNumber firstOf has numberIn addedByNumber added notBefore slideOf movedTo howMany ofSlides lorryCellOver
 told-late = refl
 
 chained-late : Chained (windowOf then) 4 5
-unfolding ofSlides slideOf
+unfolding ofSlides notBefore slideOf movedTo
 chained-late = chained-one (here (along refl refl))
 
 -- whoever says no after it
-says-no : (p : Panel) → p .joinedGives (after p start late .book) 4 5 .yes ≡ false → Joined p → ⊥
+says-no : (p : Implementation) → p .joinedGives (after p start late .book) 4 5 .yes ≡ false → Joined p → ⊥
 says-no p e j = false≢true (sym e ∙ j .chained start late then told-late 4 5 refl .1 chained-late)
 
 nothing-stored : (joinedOf (after forgetful start late .book) 4 5 .yes ≡ false) × (joinedOf (after idle start late .book) 4 5 .yes ≡ false)

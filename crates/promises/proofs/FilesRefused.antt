@@ -1,8 +1,8 @@
 -- Demand 1 of files: with a refusal the reader's other fields are 0 and the lent buffers of the writer and of the listing are
 -- unchanged (the first two by the crate file); and where playing stops at a record, the book and its log are those that
 -- the records before it have left, since a refused link changes nothing.
-use Prim.Native.Nat.{ℕ, zero, suc, _+_}
-use mathlib.Core.Path.{_≡_, refl, sym}
+use Prim.Native.Nat.{ℕ, zero, suc}
+use mathlib.Core.Path.{_≡_, refl}
 use mathlib.Core.Bool.{Bool, true, false}
 use mathlib.Core.List.{List}
 use native.Mathlib.Omega.{arith}
@@ -12,7 +12,7 @@ use Rattle.book.specs.Calls.{Outcome}
 use Rattle.file_play.specs.Play.{Play, tickAt, oneAt, otherAt, recordGives, playByNumber, playFrom}
 use Rattle.listing.specs.Listing.{listedIf, listingOf}
 use Rattle.promises.specs.History.{link}
-use Rattle.promises.specs.Panel.{gives}
+use Rattle.promises.specs.Implementation.{gives}
 use Rattle.promises.specs.Demands.{Stopped, FilesRefused}
 use Rattle.promises.proofs.Refused.{refused}
 

@@ -1,5 +1,5 @@
 -- The links of a history's two forests: both ends of each are cells, and the forward forest's steps have the label 0.
-use Prim.Native.Nat.{ℕ, _+_, _/_, _%_, _≤_, _<_}
+use Prim.Native.Nat.{ℕ, _+_, _/_, _%_, _≤_}
 use mathlib.Core.Path.{_≡_, refl}
 use mathlib.Core.Bool.{Bool, true, false, _&&_}
 use mathlib.Core.List.{List, [], _∷_, map}
@@ -18,11 +18,11 @@ each-made make p (s ∷ ss) = also (p s) (each-made make p ss)
 
 -- those that the forward forest is made of, the newest at the front
 abbrev pub ofChunk : History → List Stored
-ofChunk h = ofSlides (λ t. eqb (t / h .settings .n) (chunkIn h)) (h .links)
+ofChunk h = ofSlides (λ t. eqb (t / h .clock .n) (chunkIn h)) (h .links)
 
 -- and the backward forest
 abbrev pub scanned : History → List Stored
-scanned h = ofSlides (λ t. eqb (t / h .settings .n + 1) (chunkIn h) && leb 1 (t % h .settings .n)) (h .links)
+scanned h = ofSlides (λ t. eqb (t / h .clock .n + 1) (chunkIn h) && leb 1 (t % h .clock .n)) (h .links)
 
 ends-of : {k : ℕ} {ss : List Stored} → Falling k ss → (wanted : ℕ → Bool) (label : ℕ → ℕ)
     → EndsBelow cells (map (labelBy label) (ofSlides wanted ss))

@@ -1,53 +1,38 @@
 -- A book that agrees with a history is in order: number 1 never comes from it.
 --
--- The settings were taken, so the clock and the mounting are in range. The lists hold forests of links between cells with
+-- The clock and the mounting of a history are in range. The lists hold forests of links between cells with
 -- places as labels, whose ranges and walks the crate graph knows.
 use Prim.Native.Nat.{ℕ, _%_, _≤_, zero-le}
-use mathlib.Core.Path.{_≡_, refl, ap, subst⁻¹}
-use mathlib.Core.Bool.{Bool, true, false, cond}
+use mathlib.Core.Path.{_≡_, ap, subst⁻¹}
+use mathlib.Core.Bool.{true}
 use native.Mathlib.Omega.{arith}
 use native.Mathlib.Nat.{le-refl, mod-lt, suc-le-suc-iff}
 use lib.Dec.{leb}
 use borrow.Author.Tests.{le-leb}
 use Rattle.graph.specs.Forest.{Forest, Each}
 use Rattle.graph.proofs.Cut.{label-bounded}
-use Rattle.settings.specs.Settings.{inRange, takenNumber, heldInRange}
-use Rattle.settings.specs.declared.Settings.{Settings}
-use Rattle.slides.specs.Clock.{started, clockInRange}
-use Rattle.slides.proofs.Slides.{InRange, in-range, started-in-range}
+use Rattle.settings.specs.Settings.{heldInRange}
+use Rattle.slides.specs.Clock.{clockInRange}
+use Rattle.slides.proofs.Slides.{InRange, in-range}
 use Rattle.forest.specs.Arrays.{labelIn}
 use Rattle.forest_check.specs.Sound.{every, within, labelsWithin}
 use Rattle.forest_check.proofs.Every.{each-every, within-both}
 use Rattle.book_state.specs.Order.{inOrder, inOrderOf}
-use Rattle.promises.specs.History.{Stored, History, clockIn, backwardLinks}
-use Rattle.promises.specs.Panel.{State}
+use Rattle.promises.specs.History.{Stored, History, backwardLinks}
+use Rattle.promises.specs.Implementation.{State}
 use Rattle.promises.proofs.Agrees.{Sensible, Agrees}
 use Rattle.promises.proofs.BySlide.{labelBy}
 use Rattle.promises.proofs.Forests.{scanned, each-made, forward-ends, backward-ends}
 use Rattle.book_state.proofs.Built.{each-reverse, forest-sound}
 
--- ---- what was taken is in range
-
-taken-range : (s : Settings) → takenNumber s ≡ 0 → heldInRange (s .n) (s .b) (s .mounting) ≡ true
-taken-range s = go (inRange (s .n) (s .b) (s .mounting))
-  where
-    go : (t : Bool) → _≡_ {A = ℕ} (cond t 0 2) 0 → t ≡ true
-    go true e = refl
-    go false e = absurd (omega arith)
-
-pub sensible-range : (h : History) → Sensible h → InRange (clockIn h)
-sensible-range h sensible =
-    let r : InRange (started (h .settings)) = in-range (started (h .settings)) .0 (started-in-range (h .settings) (sensible .taken)) in
-    record { n-least = r .n-least; n-most = r .n-most; b-least = r .b-least; time-from = sensible .since }
-
 -- labels are places
 pub backward-labels : (h : History) → Sensible h → Each (λ x. x .label ≤ 15) (backwardLinks h)
-backward-labels h sensible = each-reverse (each-made (labelBy (λ t. t % h .settings .n)) place (scanned h))
+backward-labels h sensible = each-reverse (each-made (labelBy (λ t. t % h .clock .n)) place (scanned h))
   where
-    r : InRange (clockIn h)
-    r = sensible-range h sensible
+    r : InRange (h .clock)
+    r = sensible .range
 
-    place : (s : Stored) → s .slide % h .settings .n ≤ 15
+    place : (s : Stored) → s .slide % h .clock .n ≤ 15
     place s = omega (arith, mod-lt (s .slide) (r .n-least), r .n-most)
 
 module _ {h : History} {s : State} (a : Agrees h s) where
@@ -71,10 +56,10 @@ module _ {h : History} {s : State} (a : Agrees h s) where
       )
     where
       clock : clockInRange (s .book .clock) ≡ true
-      clock = rw (a .clock) (in-range (clockIn h) .1 (sensible-range h (a .sensible)))
+      clock = rw (a .clock) (in-range (h .clock) .1 (a .sensible .range))
 
       settings : heldInRange (s .book .clock .n) (s .book .clock .b) (s .book .mounting) ≡ true
-      settings = rw (a .clock, a .mounting) (taken-range (h .settings) (a .sensible .taken))
+      settings = rw (a .clock, a .mounting) (a .sensible .held)
 
       counts : every (within 0 257) 0 (s .book .counts) ≡ true
       counts = each-every (within 0 257) (s .book .counts) (λ i h. within-both 0 257 i _ zero-le (suc-le-suc-iff .1 (a .counts-few i)))

@@ -24,8 +24,8 @@ use Rattle.book_joined.specs.Joined as calls
 use Rattle.numbers.specs.Checks.{firstOf}
 use Rattle.book_state.specs.Numbers.{areCells}
 use Rattle.book_joined.specs.Joined.{cutOf, stepLinks, fourWalks, joinedOf, joinedByNumber, joinedNumber}
-use Rattle.promises.specs.History.{History, clockIn, openSlideIn, windowOf, backwardLinks}
-use Rattle.promises.specs.Panel.{State, ours}
+use Rattle.promises.specs.History.{History, openSlideIn, windowOf, backwardLinks}
+use Rattle.promises.specs.Implementation.{State, ours}
 use Rattle.promises.specs.Demands.{cutIn, forwardStepCount, backwardStepCount, WalksEnd, Joined}
 use Rattle.promises.proofs.Agrees.{Sensible, Agrees}
 use Rattle.promises.proofs.InOrder.{agrees-in-order}
@@ -56,7 +56,7 @@ joined-cells b one other in-order are = rw (in-order, are)
 module _ {h : History} {s : State} (agrees : Agrees h s) where
   -- the cut is that of the history
   cut-is : cutOf (s .book) ≡ cutIn h
-  cut-is = rw (agrees .clock) (ap (λ p. p + 1) (place-rest (clockIn h) (wide (agrees .sensible)) (openSlideIn h)))
+  cut-is = rw (agrees .clock) (ap (λ p. p + 1) (place-rest (h .clock) (wide (agrees .sensible)) (openSlideIn h)))
 
   -- ---- yes
 

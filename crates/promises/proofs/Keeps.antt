@@ -15,6 +15,7 @@ use Rattle.settings.specs.declared.Settings.{Settings}
 use Rattle.cells.specs.Cell.{sectors, lorryCell}
 use Rattle.cells.specs.Cell.Laws.{lorry-is-cell}
 use Rattle.slides.specs.Clock.{notBefore}
+use Rattle.slides.proofs.Slides.{moved-slide}
 use Rattle.book_state.specs.Arrays.{cells}
 use Rattle.book_time.specs.Time.{movedBook}
 use Rattle.book_state.specs.Numbers.{logPlaces}
@@ -25,7 +26,6 @@ use Rattle.promises.specs.History.{
   link,
   clock,
   History,
-  clockIn,
   numberIn,
   withTime,
   lorryLink,
@@ -36,7 +36,7 @@ use Rattle.promises.specs.History.{
   oneMore,
   historyFrom,
 }
-use Rattle.promises.specs.Panel.{ours, State, stateOf, gives, after}
+use Rattle.promises.specs.Implementation.{ours, State, stateOf, gives, after}
 use Rattle.promises.specs.Demands.{roomIn, HasHistory}
 use Rattle.promises.proofs.Agrees.{Agrees}
 use Rattle.numbers.proofs.Checks.{has-front, has-long}
@@ -44,7 +44,7 @@ use Rattle.numbers.proofs.Checks.{first-passed, unless-passed}
 use Rattle.book.proofs.Taken.{Taken, taken}
 use Rattle.promises.proofs.NumbersAgree.{stored-agrees, link-number, clock-number}
 use Rattle.promises.proofs.KeptByOpening.{opening-agrees}
-use Rattle.promises.proofs.KeptByTime.{slide-then, time-agrees}
+use Rattle.promises.proofs.KeptByTime.{time-agrees}
 use Rattle.promises.proofs.KeptByLink.{link-agrees}
 
 -- ---- the log's places
@@ -115,11 +115,11 @@ module _ {h : History} {s : State} (a : Agrees h s) where
   link-done tick one other t =
       subst⁻¹ (λ m. Agrees (withLink (withTime h tick) (lorryLink h one other)) (linked tick one other m)) (a .mounting)
       (link-agrees (time-agrees a tick later) (lorryLink h one other)
-      (lorry-is-cell sectors (h .settings .mounting) one (ltb-true one cells (two .0)))
-      (lorry-is-cell sectors (h .settings .mounting) other (ltb-true other cells (two .1)))
-      (rw (slide-then a tick later, ← (stored-agrees a tick later)) (t .few)))
+      (lorry-is-cell sectors (h .mounting) one (ltb-true one cells (two .0)))
+      (lorry-is-cell sectors (h .mounting) other (ltb-true other cells (two .1)))
+      (rw (moved-slide (h .clock) tick later, ← (stored-agrees a tick later)) (t .few)))
     where
-      later : notBefore (clockIn h) tick ≡ true
+      later : notBefore (h .clock) tick ≡ true
       later = rw (a .clock) at (t .later)
 
       two : (ltb one cells ≡ true) × (ltb other cells ≡ true)

@@ -24,7 +24,7 @@ use Rattle.book_state.specs.Log.{startOf}
 use Rattle.book_state.specs.Numbers.{logPlaces}
 use Rattle.book.specs.Calls.{linkStored}
 use Rattle.promises.specs.History.{Stored, History, openSlideIn, chunkIn, howMany, slideLinks, linksOf, withLink, forwardLinks, backwardLinks}
-use Rattle.promises.specs.Panel.{State, stateOf}
+use Rattle.promises.specs.Implementation.{State, stateOf}
 use Rattle.promises.specs.Demands.{forwardForest}
 use Rattle.promises.proofs.Agrees.{next, Sensible, Live, spotIn, Kept, Agrees}
 use Rattle.numbers.proofs.Checks.{has-places, has-long}
@@ -53,8 +53,8 @@ module _ {h : History} {s : State} (a : Agrees h s) (l : Link) (one : l .one < c
   unfolding howMany
   link-sensible =
       record {
-        taken = a .sensible .taken;
-        since = a .sensible .since;
+        range = a .sensible .range;
+        held = a .sensible .held;
         falling = next (le-refl _) one other (a .sensible .falling);
         few = λ t. go t (ℕ-discrete t (openSlideIn h));
       }
@@ -131,7 +131,7 @@ module _ {h : History} {s : State} (a : Agrees h s) (l : Link) (one : l .one < c
 
   backward-same : backwardLinks (withLink h l) ≡ backwardLinks h
   backward-same =
-      ap (λ ss. reverse (map (labelBy (λ t. t % h .settings .n)) ss))
+      ap (λ ss. reverse (map (labelBy (λ t. t % h .clock .n)) ss))
       (left-one _ stored (h .links) (rw (ne-eqb (chunkIn h + 1) (chunkIn h) (omega arith))))
 
   -- the forward forest as lists: all its labels are 0, so that it does without them in the book

@@ -4,26 +4,26 @@
 -- no links in the open chunk and in the one before it.
 use Prim.Native.Nat.{ℕ, _+_, _/_, _%_, _≤_, zero-le}
 use mathlib.Core.Path.{_≡_, refl, sym, _∙_, ap}
-use mathlib.Core.Bool.{Bool, true, and-eq-true-iff}
+use mathlib.Core.Bool.{Bool, true, false, cond, and-eq-true-iff}
 use mathlib.Core.Logic.{inl, inr}
 use mathlib.Core.List.{List, [], _++_, map, reverse}
 use native.Mathlib.Omega.{arith}
-use native.Mathlib.Nat.{le-refl}
 use lib.Dec.{leb}
 use lib.ListN.{getD, drop, replicate}
 use borrow.Author.Tests.{eqb-true}
 use Rattle.graph.specs.Forest.{Labelled, forestOf}
-use Rattle.settings.specs.Settings.{takenNumber}
+use Rattle.settings.specs.Settings.{inRange, takenNumber, heldInRange}
 use Rattle.settings.specs.declared.Settings.{Settings}
 use Rattle.slides.specs.Clock.{started}
+use Rattle.slides.proofs.Slides.{in-range, started-in-range}
 use Rattle.forest.specs.Arrays.{held}
 use Rattle.book_state.specs.Arrays.{stepLimit, freshArrays}
 use Rattle.book_state.specs.Log.{linksAt}
 use Rattle.book_time.specs.Time.{emptied}
 use Rattle.numbers.specs.Checks.{has}
 use Rattle.book_state.specs.Numbers.{logPlaces}
-use Rattle.promises.specs.History.{History, clockIn, chunkIn, ofSlides, howMany, slideLinks, begun, forwardLinks, backwardLinks}
-use Rattle.promises.specs.Panel.{State}
+use Rattle.promises.specs.History.{History, chunkIn, ofSlides, howMany, slideLinks, begun, forwardLinks, backwardLinks}
+use Rattle.promises.specs.Implementation.{State}
 use Rattle.promises.proofs.Agrees.{none, Sensible, Live, spotIn, Kept, Agrees}
 use Rattle.numbers.proofs.Checks.{has-front}
 use Rattle.book_time.proofs.Moves.{zeros}
@@ -42,26 +42,26 @@ fresh-forest e = holds-fresh .holds ∙ ap (forestOf stepLimit) (sym e)
 
 -- no links of slides of the open chunk and the one before it, nor of later ones
 abbrev pub Bare : History → Type 0
-Bare h = (wanted : ℕ → Bool) → ((t : ℕ) → wanted t ≡ true → chunkIn h ≤ t / h .settings .n + 1) → ofSlides wanted (h .links) ≡ []
+Bare h = (wanted : ℕ → Bool) → ((t : ℕ) → wanted t ≡ true → chunkIn h ≤ t / h .clock .n + 1) → ofSlides wanted (h .links) ≡ []
 
 module _ (h : History) (bare : Bare h) where
   forward-none : forwardLinks h ≡ []
-  forward-none = ap (map (labelBy (λ t. 0))) (bare _ (λ t e. omega (arith, eqb-true (t / h .settings .n) (chunkIn h) e)))
+  forward-none = ap (map (labelBy (λ t. 0))) (bare _ (λ t e. omega (arith, eqb-true (t / h .clock .n) (chunkIn h) e)))
 
   backward-none : backwardLinks h ≡ []
   backward-none =
-      ap (λ ss. reverse (map (labelBy (λ t. t % h .settings .n)) ss))
-      (bare _ (λ t e. omega (arith, eqb-true (t / h .settings .n + 1) (chunkIn h) (and-eq-true-iff _ (leb 1 (t % h .settings .n)) .0 e .0))))
+      ap (λ ss. reverse (map (labelBy (λ t. t % h .clock .n)) ss))
+      (bare _ (λ t e. omega (arith, eqb-true (t / h .clock .n + 1) (chunkIn h) (and-eq-true-iff _ (leb 1 (t % h .clock .n)) .0 e .0))))
 
   slide-none : (t : ℕ) → Live h t → slideLinks t (h .links) ≡ []
   slide-none t live = bare _ (λ u e. rw (eqb-true u t e) (near live))
     where
-      near : Live h t → chunkIn h ≤ t / h .settings .n + 1
+      near : Live h t → chunkIn h ≤ t / h .clock .n + 1
       near (inl e) = omega arith
       near (inr e) = omega arith
 
   pub emptied-agrees : (log : List ℕ) → Sensible h → has logPlaces log ≡ true
-      → Agrees h (record { book = emptied (clockIn h) (h .settings .mounting); log = log })
+      → Agrees h (record { book = emptied (h .clock) (h .mounting); log = log })
   unfolding emptied
   emptied-agrees log sensible room =
       record {
@@ -79,9 +79,18 @@ module _ (h : History) (bare : Bare h) where
         backward = fresh-forest backward-none;
       }
 
+-- settings that opening takes are settings that a book may hold
+taken-held : (s : Settings) → takenNumber s ≡ 0 → heldInRange (s .n) (s .b) (s .mounting) ≡ true
+taken-held s = go (inRange (s .n) (s .b) (s .mounting))
+  where
+    go : (t : Bool) → _≡_ {A = ℕ} (cond t 0 2) 0 → t ≡ true
+    go true e = refl
+    go false e = absurd (omega arith)
+
 begun-sensible : (s : Settings) → takenNumber s ≡ 0 → Sensible (begun s)
 unfolding howMany ofSlides
-begun-sensible s e = record { taken = e; since = le-refl (s .t0); falling = none; few = λ t. zero-le }
+begun-sensible s e =
+    record { range = in-range (started s) .0 (started-in-range s e); held = taken-held s e; falling = none; few = λ t. zero-le }
 
 pub opening-agrees : (s : Settings) (log : List ℕ) → takenNumber s ≡ 0
     → Agrees (begun s) (record { book = emptied (started s) (s .mounting); log = replicate logPlaces 0 ++ drop logPlaces log })

@@ -13,15 +13,14 @@ use native.Mathlib.Omega.{arith}
 use lib.Dec.{eqb}
 use borrow.Author.Tests.{eqb-true}
 use Rattle.slides.specs.Clock.{notBefore, slideOf, openSlide, chunkOf, movedTo}
-use Rattle.slides.proofs.Slides.{moved-t0, moved-b, moved-time, moved-n, moved-slide, slide-later, InRange, in-range, moved-in-range}
+use Rattle.slides.proofs.Slides.{moved-b, moved-n, moved-chunk, moved-slide, slide-later, in-range, moved-in-range}
 use Rattle.book_state.specs.Arrays.{freshArrays, unitedAll}
 use Rattle.book_state.specs.Log.{halfOf}
 use Rattle.book_time.specs.Time.{cleared, emptied, stayed, backwardOf, turned, movedBook}
-use Rattle.promises.specs.History.{History, clockIn, openSlideIn, chunkIn, ofSlides, withTime, forwardLinks, backwardLinks}
-use Rattle.promises.specs.Panel.{State}
+use Rattle.promises.specs.History.{History, openSlideIn, chunkIn, ofSlides, withTime, forwardLinks, backwardLinks}
+use Rattle.promises.specs.Implementation.{State}
 use Rattle.promises.proofs.Agrees.{Sensible, Live, Kept, Agrees}
 use Rattle.promises.proofs.Lists.{fails, falling-later, none-later}
-use Rattle.promises.proofs.InOrder.{sensible-range}
 use Rattle.book_time.proofs.Moves.{moved-cases, cleared-there}
 use Rattle.promises.proofs.Counts.{cleared-before, cleared-long, cleared-few}
 use Rattle.promises.proofs.BySlide.{labelBy}
@@ -31,69 +30,68 @@ use Rattle.book_state.proofs.Built.{Holds, holds-fresh, holds-all}
 use Rattle.promises.proofs.ChunkEnds.{chunk-ends}
 use Rattle.promises.proofs.KeptByOpening.{kept-none, fresh-forest, emptied-agrees}
 
-module _ {h : History} {s : State} (a : Agrees h s) (tick : ℕ) (later : notBefore (clockIn h) tick ≡ true) where
+module _ {h : History} {s : State} (a : Agrees h s) (tick : ℕ) (later : notBefore (h .clock) tick ≡ true) where
   abbrev then : History
   then = withTime h tick
 
   -- ---- the history at the later time
 
-  clock-then : movedTo (clockIn h) tick ≡ clockIn then
-  clock-then =
-      λ i.
-      record {
-        t0 = moved-t0 (clockIn h) tick i;
-        b = moved-b (clockIn h) tick i;
-        time = moved-time (clockIn h) tick later i;
-        n = moved-n (clockIn h) tick i;
-      }
+  -- time that moves leaves n alone, and so the chunk of every slide
+  n-then : then .clock .n ≡ h .clock .n
+  n-then = moved-n (h .clock) tick
 
-  pub slide-then : openSlideIn then ≡ slideOf (clockIn h) tick
-  slide-then = ap openSlide (sym clock-then) ∙ moved-slide (clockIn h) tick later
+  chunk-same : (t : ℕ) → t / then .clock .n ≡ t / h .clock .n
+  chunk-same = moved-chunk (h .clock) tick
 
   later-slide : openSlideIn h ≤ openSlideIn then
-  later-slide = rw slide-then (slide-later (clockIn h) tick later)
-
-  range-then : InRange (clockIn then)
-  range-then =
-      in-range (clockIn then) .0
-      (rw (← clock-then) (moved-in-range (clockIn h) tick (in-range (clockIn h) .1 (sensible-range h (a .sensible)))))
+  later-slide = rw (moved-slide (h .clock) tick later) (slide-later (h .clock) tick later)
 
   time-sensible : Sensible then
   time-sensible =
       record {
-        taken = a .sensible .taken;
-        since = range-then .time-from;
+        range = in-range (then .clock) .0 (moved-in-range (h .clock) tick (in-range (h .clock) .1 (a .sensible .range)));
+        held = rw (n-then, moved-b (h .clock) tick) (a .sensible .held);
         falling = falling-later (a .sensible .falling) later-slide;
         few = a .sensible .few;
       }
 
   later-chunk : chunkIn h ≤ chunkIn then
-  later-chunk = chunk-later h (a .sensible) later-slide
+  later-chunk = omega (arith, chunk-later h (a .sensible) later-slide, chunk-same (openSlideIn then))
+
+  -- the book's clock moves as the history's does
+  clock-then : movedTo (s .book .clock) tick ≡ then .clock
+  clock-then = ap (λ c. movedTo c tick) (a .clock)
 
   -- no link has a slide of a later chunk than the open one was
-  none-then : (wanted : ℕ → Bool) → ((t : ℕ) → wanted t ≡ true → chunkIn h < t / h .settings .n) → ofSlides wanted (h .links) ≡ []
+  none-then : (wanted : ℕ → Bool) → ((t : ℕ) → wanted t ≡ true → chunkIn h < t / h .clock .n) → ofSlides wanted (h .links) ≡ []
   none-then wanted far =
       none-later (a .sensible .falling) wanted (λ t l. fails _ (λ e. omega (arith, far t e, chunk-later h (a .sensible) l)))
 
   -- ---- the same chunk
 
   module _ (same : chunkIn then ≡ chunkIn h) where
+    stay-kept : (t : ℕ) → Live then t → Kept then (record { book = stayed (s .book) (movedTo (s .book .clock) tick); log = s .log }) t
+    unfolding stayed
+    stay-kept t live =
+        let k : Kept h s t = a .kept t (rw (same, n-then) at live) in
+        record { count = rw n-then (k .count); links = rw n-then (k .links) }
+
     stay-agrees : Agrees then (record { book = stayed (s .book) (movedTo (s .book .clock) tick); log = s .log })
     unfolding stayed
     stay-agrees =
         record {
           sensible = time-sensible;
-          clock = ap (λ c. movedTo c tick) (a .clock) ∙ clock-then;
+          clock = clock-then;
           mounting = a .mounting;
           room = a .room;
           counts-long = a .counts-long;
           counts-few = a .counts-few;
-          kept = λ t live. let k : Kept h s t = a .kept t (rw same at live) in record { count = k .count; links = k .links };
+          kept = stay-kept;
           forward-long = a .forward-long;
           backward-long = a .backward-long;
-          forward-parents = rw same (a .forward-parents);
-          forward-sizes = rw same (a .forward-sizes);
-          backward = rw same (a .backward);
+          forward-parents = rw (same, n-then) (a .forward-parents);
+          forward-sizes = rw (same, n-then) (a .forward-sizes);
+          backward = rw (same, n-then) (a .backward);
         }
 
   -- ---- the next chunk
@@ -111,24 +109,26 @@ module _ {h : History} {s : State} (a : Agrees h s) (tick : ℕ) (later : notBef
 
     new-kept : (t : ℕ) → Live then t → Kept then new t
     new-kept t (inl here) =
-        kept-none then new t (none-then (λ u. eqb u t) (λ u e. rw (eqb-true u t e) (omega arith)))
-        (rw (new-counts, here) (cleared-there _ _ (s .book .counts) (place-in h (a .sensible) t)))
+        kept-none then new t (none-then (λ u. eqb u t) (λ u e. rw (eqb-true u t e) (omega (arith, chunk-same t))))
+        (rw (new-counts, here) (cleared-there _ _ (s .book .counts) (place-in then time-sensible t)))
     new-kept t (inr before) =
-        let k : Kept h s t = a .kept t (inl (omega arith)) in
+        let k : Kept h s t = a .kept t (inl (omega (arith, chunk-same t))) in
         record {
           count =
               rw new-counts
-              (cleared-before _ (s .book .counts) (a .counts-long) _ _ before (place-in h (a .sensible) t) ∙ k .count);
-          links = k .links;
+              (cleared-before _ (s .book .counts) (a .counts-long) _ _ before (place-in then time-sensible t) ∙ rw n-then (k .count));
+          links = rw n-then (k .links);
         }
 
     -- the backward forest is that of the chunk that ends
     new-backward : backwardOf (s .book) (s .log) ≡ unitedAll freshArrays (backwardLinks then)
     unfolding backwardOf
-    new-backward = ap (unitedAll freshArrays) (rw (a .clock, next) (chunk-ends a))
+    new-backward = ap (unitedAll freshArrays) (rw (a .clock, next, n-then) (chunk-ends a))
 
     forward-none : forwardLinks then ≡ []
-    forward-none = ap (map (labelBy (λ t. 0))) (none-then _ (λ t e. omega (arith, eqb-true (t / h .settings .n) (chunkIn then) e)))
+    forward-none =
+        ap (map (labelBy (λ t. 0)))
+        (none-then _ (λ t e. omega (arith, chunk-same t, eqb-true (t / then .clock .n) (chunkIn then) e)))
 
     built : Holds (backwardLinks then) (backwardOf (s .book) (s .log))
     built = rw new-backward (holds-all (backward-ends time-sensible))
@@ -138,7 +138,7 @@ module _ {h : History} {s : State} (a : Agrees h s) (tick : ℕ) (later : notBef
     turn-agrees =
         record {
           sensible = time-sensible;
-          clock = ap (λ c. movedTo c tick) (a .clock) ∙ clock-then;
+          clock = clock-then;
           mounting = a .mounting;
           room = a .room;
           counts-long = rw new-counts (cleared-long _ (s .book .counts) (a .counts-long));
@@ -156,15 +156,16 @@ module _ {h : History} {s : State} (a : Agrees h s) (tick : ℕ) (later : notBef
   jump-agrees : (chunkIn then ≡ chunkIn h → ⊥) → (chunkIn then ≡ chunkIn h + 1 → ⊥)
       → Agrees then (record { book = emptied (movedTo (s .book .clock) tick) (s .book .mounting); log = s .log })
   jump-agrees same next =
-      rw (a .clock, clock-then, a .mounting)
-      (emptied-agrees then (λ wanted far. none-then wanted (λ t e. omega (arith, far t e, later-chunk))) (s .log) time-sensible (a .room))
+      rw (clock-then, a .mounting)
+      (emptied-agrees then (λ wanted far. none-then wanted (λ t e. omega (arith, far t e, later-chunk, chunk-same t))) (s .log)
+      time-sensible (a .room))
 
   -- the chunks that the book compares
   chunk-before : chunkOf (s .book .clock) (openSlide (s .book .clock)) ≡ chunkIn h
   chunk-before = rw (a .clock)
 
   chunk-after : chunkOf (s .book .clock) (slideOf (s .book .clock) tick) ≡ chunkIn then
-  chunk-after = rw (a .clock) (ap (λ t. t / h .settings .n) (sym slide-then))
+  chunk-after = rw (a .clock) (ap (λ t. t / h .clock .n) (sym (moved-slide (h .clock) tick later)) ∙ sym (chunk-same (openSlideIn then)))
 
   pub time-agrees : Agrees then (record { book = movedBook (s .book) (s .log) tick; log = s .log })
   time-agrees =

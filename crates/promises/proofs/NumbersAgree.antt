@@ -21,14 +21,14 @@ use Rattle.numbers.specs.Checks.{firstOf, unless}
 use Rattle.book_state.specs.Numbers.{areCells}
 use Rattle.book_joined.specs.Joined.{joinedNumber, joinedByNumber, joinedOf}
 use Rattle.book.specs.Calls.{openingNumber, openingByNumber, openingOf, linkNumber, linkStored, linkByNumber, linkOf, clockNumber, clockByNumber, clockOf}
-use Rattle.promises.specs.History.{Call, opening, link, clock, History, clockIn, chunkIn, howMany, slideLinks, numberIn}
-use Rattle.promises.specs.Panel.{ours, State, gives}
+use Rattle.promises.specs.History.{Call, opening, link, clock, History, chunkIn, howMany, slideLinks, numberIn}
+use Rattle.promises.specs.Implementation.{ours, State, gives}
 use Rattle.promises.specs.Demands.{roomIn}
 use Rattle.promises.proofs.Agrees.{Agrees}
 use Rattle.numbers.proofs.Checks.{first-last, first-under}
 use Rattle.numbers.proofs.Checks.{passes}
 use Rattle.promises.proofs.Lists.{fails, none-later}
-use Rattle.promises.proofs.InOrder.{sensible-range, agrees-in-order}
+use Rattle.promises.proofs.InOrder.{agrees-in-order}
 
 -- ---- a call gives its number
 
@@ -55,25 +55,25 @@ joined-gives b one other = itself (λ k. joinedByNumber k b one other .number) r
 module _ {h : History} {s : State} (a : Agrees h s) where
   -- ---- how many links a slide holds
 
-  pub stored-agrees : (tick : ℕ) → notBefore (clockIn h) tick ≡ true
-      → stored (s .book) (slideOf (s .book .clock) tick) ≡ howMany (slideLinks (slideOf (clockIn h) tick) (h .links))
+  pub stored-agrees : (tick : ℕ) → notBefore (h .clock) tick ≡ true
+      → stored (s .book) (slideOf (s .book .clock) tick) ≡ howMany (slideLinks (slideOf (h .clock) tick) (h .links))
   unfolding stored howMany
   stored-agrees tick later = rw (a .clock) (go (ℕ-discrete (slide / n) (chunkIn h)))
     where
       n : ℕ
-      n = h .settings .n
+      n = h .clock .n
 
       slide : ℕ
-      slide = slideOf (clockIn h) tick
+      slide = slideOf (h .clock) tick
 
       go : Dec (slide / n ≡ chunkIn h)
-          → cond (eqb (slide / n) (chunkIn h)) (getD (s .book .counts) (spotOf (halfOf (slide / n)) (placeOf (clockIn h) slide)) 0) 0
+          → cond (eqb (slide / n) (chunkIn h)) (getD (s .book .counts) (spotOf (halfOf (slide / n)) (placeOf (h .clock) slide)) 0) 0
           ≡ howMany (slideLinks slide (h .links))
-      go (yes e) = rw (eq-eqb _ _ e, place-rest (clockIn h) (sensible-range h (a .sensible) .n-least) slide) (a .kept slide (inl e) .count)
+      go (yes e) = rw (eq-eqb _ _ e, place-rest (h .clock) (a .sensible .range .n-least) slide) (a .kept slide (inl e) .count)
       go (no d) =
           rw (ne-eqb _ _ d)
           (ap howMany (sym (none-later (a .sensible .falling) (λ t. eqb t slide)
-          (λ t l. fails _ (λ e. d (ap (λ u. u / n) (omega (arith, slide-later (clockIn h) tick later, eqb-true t slide e))))))))
+          (λ t l. fails _ (λ e. d (ap (λ u. u / n) (omega (arith, slide-later (h .clock) tick later, eqb-true t slide e))))))))
 
   -- ---- the numbers
 
@@ -83,7 +83,7 @@ module _ {h : History} {s : State} (a : Agrees h s) where
       passes 1 _ (agrees-in-order a) ∙ passes 6 _ (a .room)
       ∙ first-under (areCells one other) 2 _ _
       (λ _. rw (ap (λ c. notBefore c tick) (a .clock))
-      (first-under (notBefore (clockIn h) tick) 3 _ _ (λ later. ap (λ k. firstOf (unless (ltb k 256) 5 ∷ [])) (stored-agrees tick later))))
+      (first-under (notBefore (h .clock) tick) 3 _ _ (λ later. ap (λ k. firstOf (unless (ltb k 256) 5 ∷ [])) (stored-agrees tick later))))
 
   pub clock-number : (tick : ℕ) → clockNumber (s .book) (s .log) tick ≡ numberIn (roomIn s) h (clock tick)
   unfolding clockNumber numberIn

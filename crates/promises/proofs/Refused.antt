@@ -21,7 +21,7 @@ use Rattle.book_joined.specs.Joined.{joinedNumber, joinedByNumber, joinedOf}
 use Rattle.book.specs.Calls.{Outcome, openingNumber, openingByNumber, openingOf, linkNumber, linkStored, linkByNumber, linkOf, clockNumber, clockByNumber, clockOf}
 use Rattle.chain.specs.Chain.{ChainOutcome, chainNumber, chainByNumber, chainOf}
 use Rattle.promises.specs.History.{Call, opening, link, clock}
-use Rattle.promises.specs.Panel.{ours, State, gives, givesChain}
+use Rattle.promises.specs.Implementation.{ours, State, gives, givesChain}
 use Rattle.promises.specs.Demands.{Refused}
 use Rattle.book.proofs.Taken.{Taken, taken}
 use Rattle.book_time.proofs.Moves.{moved-clock, moved-count}

@@ -15,10 +15,9 @@ use Rattle.graph.specs.Link.{Link, Linked}
 use Rattle.graph.specs.Forest.{atLeast, empty, NeverRise, start}
 use Rattle.graph.proofs.Chains.{Relinks, linked-left, linked-right, linked-append-cases}
 use Rattle.slides.proofs.Slides.{place-rest, place-order, window-places}
-use Rattle.promises.specs.History.{History, clockIn, openSlideIn, ofSlides, slideLinks, linksOf, inWindow, windowOf, chunkIn, placeIn, forwardLinks, backwardLinks}
+use Rattle.promises.specs.History.{History, openSlideIn, ofSlides, slideLinks, linksOf, inWindow, windowOf, chunkIn, placeIn, forwardLinks, backwardLinks}
 use Rattle.promises.specs.Demands.{cutIn}
 use Rattle.promises.proofs.Agrees.{Sensible}
-use Rattle.promises.proofs.InOrder.{sensible-range}
 use Rattle.promises.proofs.BySlide.{of-slide, InSlide, in-slide, labelBy, turned-falls, cut-picked, cut-turned, turned-links, links-turned}
 
 -- ---- the links that the two forests are walked by
@@ -32,28 +31,28 @@ backwardPart h = map (λ x. x .link) (atLeast (cutIn h) (backwardLinks h))
 
 -- a slide of the open chunk; one of the chunk before, at a place above the open slide's
 abbrev pub Opened : History → ℕ → Type 0
-Opened h t = t / h .settings .n ≡ chunkIn h
+Opened h t = t / h .clock .n ≡ chunkIn h
 
 abbrev pub Before : History → ℕ → Type 0
-Before h t = (t / h .settings .n + 1 ≡ chunkIn h) × (placeIn h < t % h .settings .n)
+Before h t = (t / h .clock .n + 1 ≡ chunkIn h) × (placeIn h < t % h .clock .n)
 
 -- the tests: of the open chunk; of the chunk before, place 0 left out; and what the cut leaves of that
 abbrev opened : History → ℕ → Bool
-opened h t = eqb (t / h .settings .n) (chunkIn h)
+opened h t = eqb (t / h .clock .n) (chunkIn h)
 
 abbrev scanned : History → ℕ → Bool
-scanned h t = eqb (t / h .settings .n + 1) (chunkIn h) && leb 1 (t % h .settings .n)
+scanned h t = eqb (t / h .clock .n + 1) (chunkIn h) && leb 1 (t % h .clock .n)
 
 abbrev left : History → ℕ → Bool
-left h t = scanned h t && not (ltb (t % h .settings .n) (cutIn h))
+left h t = scanned h t && not (ltb (t % h .clock .n) (cutIn h))
 
 -- a place above the open slide's is not place 0
 left-is : (h : History) (t : ℕ) → (left h t ≡ true) ↔ Before h t
 left-is h t = (
   λ e.
       let (w, c) = and-eq-true-iff _ _ .0 e in
-      (eqb-true _ _ (and-eq-true-iff _ _ .0 w .0), omega (arith, ltb-false (t % h .settings .n) (cutIn h) (not-true _ c))),
-  λ w. rw (eq-eqb _ _ (w .0), le-leb 1 (t % h .settings .n) (omega (arith, w .1)), le-ltb (t % h .settings .n) (cutIn h) (omega (arith, w .1))),
+      (eqb-true _ _ (and-eq-true-iff _ _ .0 w .0), omega (arith, ltb-false (t % h .clock .n) (cutIn h) (not-true _ c))),
+  λ w. rw (eq-eqb _ _ (w .0), le-leb 1 (t % h .clock .n) (omega (arith, w .1)), le-ltb (t % h .clock .n) (cutIn h) (omega (arith, w .1))),
 )
 
 module _ (h : History) where
@@ -61,32 +60,32 @@ module _ (h : History) where
   forward-part = map-map (λ x. x .link) (labelBy (λ t. 0)) (ofSlides (opened h) (h .links))
 
   backward-part : backwardPart h ≡ reverse (linksOf (ofSlides (left h) (h .links)))
-  backward-part = cut-turned (cutIn h) _ ∙ ap reverse (cut-picked (cutIn h) (λ t. t % h .settings .n) (scanned h) (h .links))
+  backward-part = cut-turned (cutIn h) _ ∙ ap reverse (cut-picked (cutIn h) (λ t. t % h .clock .n) (scanned h) (h .links))
 
 module _ {h : History} (sensible : Sensible h) where
   -- n is at least 1
-  pub wide : 1 ≤ h .settings .n
-  wide = sensible-range h sensible .n-least
+  pub wide : 1 ≤ h .clock .n
+  wide = sensible .range .n-least
 
   -- in one chunk, places are in the order of the slides
-  places-rise : (t u : ℕ) → t / h .settings .n ≡ u / h .settings .n → t ≤ u → t % h .settings .n ≤ u % h .settings .n
-  places-rise t u q le = rw (← place-rest (clockIn h) wide t, ← place-rest (clockIn h) wide u) (place-order (clockIn h) wide t u q .0 le)
+  places-rise : (t u : ℕ) → t / h .clock .n ≡ u / h .clock .n → t ≤ u → t % h .clock .n ≤ u % h .clock .n
+  places-rise t u q le = rw (← place-rest (h .clock) wide t, ← place-rest (h .clock) wide u) (place-order (h .clock) wide t u q .0 le)
 
   pub backward-falls : NeverRise (backwardLinks h)
-  backward-falls = turned-falls (λ t. t % h .settings .n) (scanned h) rise (sensible .falling) [] start empty
+  backward-falls = turned-falls (λ t. t % h .clock .n) (scanned h) rise (sensible .falling) [] start empty
     where
-      chunk : (t : ℕ) → scanned h t ≡ true → t / h .settings .n + 1 ≡ chunkIn h
+      chunk : (t : ℕ) → scanned h t ≡ true → t / h .clock .n + 1 ≡ chunkIn h
       chunk t w = eqb-true _ _ (and-eq-true-iff _ _ .0 w .0)
 
-      rise : (t u : ℕ) → scanned h t ≡ true → scanned h u ≡ true → t ≤ u → t % h .settings .n ≤ u % h .settings .n
+      rise : (t u : ℕ) → scanned h t ≡ true → scanned h u ≡ true → t ≤ u → t % h .clock .n ≤ u % h .clock .n
       rise t u v w = places-rise t u (omega (arith, chunk t v, chunk u w))
 
   -- ---- the window
 
   -- which slides up to the open one are in the window
-  pub in-window : (t : ℕ) → t ≤ openSlideIn h → (openSlideIn h < t + h .settings .n) ↔ (Opened h t ⊎ Before h t)
+  pub in-window : (t : ℕ) → t ≤ openSlideIn h → (openSlideIn h < t + h .clock .n) ↔ (Opened h t ⊎ Before h t)
   in-window t le =
-      rw (← place-rest (clockIn h) wide t, ← place-rest (clockIn h) wide (openSlideIn h)) (window-places (clockIn h) wide t (openSlideIn h) le)
+      rw (← place-rest (h .clock) wide t, ← place-rest (h .clock) wide (openSlideIn h)) (window-places (h .clock) wide t (openSlideIn h) le)
 
   pub window-parts : Relinks (windowOf h) (backwardPart h ++ forwardPart h)
   window-parts x y l = found (in-slide _ (sensible .falling) x y l)
@@ -97,7 +96,7 @@ module _ {h : History} (sensible : Sensible h) where
           linked-left {ls = backwardPart h} (forwardPart h)
           (rw (backward-part h) (links-turned _ x y (of-slide (left h) t (h .links) (left-is h t .1 w) x y l)))
 
-      found : InSlide (inWindow (h .settings .n) (openSlideIn h)) (openSlideIn h) (h .links) x y → Linked x y (backwardPart h ++ forwardPart h)
+      found : InSlide (inWindow (h .clock .n) (openSlideIn h)) (openSlideIn h) (h .links) x y → Linked x y (backwardPart h ++ forwardPart h)
       found i =
           part (i .slide) (i .linked)
           (in-window (i .slide) (i .past) .0 (ltb-true _ _ (and-eq-true-iff (leb (i .slide) (openSlideIn h)) _ .0 (i .picked) .1)))

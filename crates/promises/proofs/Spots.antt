@@ -9,38 +9,37 @@ use Rattle.slides.specs.Clock.{openSlide, chunkOf, placeOf}
 use Rattle.slides.specs.declared.Clock.{Clock}
 use Rattle.slides.proofs.Slides.{InRange, place-rest}
 use Rattle.book_state.specs.Log.{halfOf, spotOf}
-use Rattle.promises.specs.History.{History, clockIn, openSlideIn}
+use Rattle.promises.specs.History.{History, openSlideIn}
 use Rattle.promises.proofs.Agrees.{Sensible, Live, spotIn}
-use Rattle.promises.proofs.InOrder.{sensible-range}
 
 module _ (h : History) (sensible : Sensible h) where
-  range : InRange (clockIn h)
-  range = sensible-range h sensible
+  range : InRange (h .clock)
+  range = sensible .range
 
   -- a later slide is of no earlier chunk
-  pub chunk-later : {t u : ℕ} → t ≤ u → t / h .settings .n ≤ u / h .settings .n
-  chunk-later {t} le = le-div-iff-mul-le (range .n-least) .1 (le-trans (div-mul-le-self t (h .settings .n)) le)
+  pub chunk-later : {t u : ℕ} → t ≤ u → t / h .clock .n ≤ u / h .clock .n
+  chunk-later {t} le = le-div-iff-mul-le (range .n-least) .1 (le-trans (div-mul-le-self t (h .clock .n)) le)
 
-  pub place-in : (t : ℕ) → t % h .settings .n < 16
+  pub place-in : (t : ℕ) → t % h .clock .n < 16
   place-in t = omega (arith, mod-lt t (range .n-least), range .n-most)
 
   pub spot-below : (t : ℕ) → spotIn h t < 32
   spot-below t = omega (arith, place-in t)
 
   -- the open slide's spot, by a clock that is the history's
-  pub spot-open : (clock : Clock) → clock ≡ clockIn h
+  pub spot-open : (clock : Clock) → clock ≡ h .clock
       → spotOf (halfOf (chunkOf clock (openSlide clock))) (placeOf clock (openSlide clock)) ≡ spotIn h (openSlideIn h)
-  spot-open clock e = rw (e, place-rest (clockIn h) (range .n-least) (openSlideIn h))
+  spot-open clock e = rw (e, place-rest (h .clock) (range .n-least) (openSlideIn h))
 
   pub spot-apart : (t u : ℕ) → Live h t → Live h u → spotIn h t ≡ spotIn h u → t ≡ u
   spot-apart t u live-t live-u e =
-      let place : t % h .settings .n ≡ u % h .settings .n = omega (arith, place-in t, place-in u) in
-      let half : t / h .settings .n % 2 ≡ u / h .settings .n % 2 = omega (arith, place-in t, place-in u) in
-      sym (div-add-mod' t (h .settings .n))
-      ∙ ap₂ (λ q p. q * h .settings .n + p) (chunk live-t live-u half) place
-      ∙ div-add-mod' u (h .settings .n)
+      let place : t % h .clock .n ≡ u % h .clock .n = omega (arith, place-in t, place-in u) in
+      let half : t / h .clock .n % 2 ≡ u / h .clock .n % 2 = omega (arith, place-in t, place-in u) in
+      sym (div-add-mod' t (h .clock .n))
+      ∙ ap₂ (λ q p. q * h .clock .n + p) (chunk live-t live-u half) place
+      ∙ div-add-mod' u (h .clock .n)
     where
-      chunk : Live h t → Live h u → t / h .settings .n % 2 ≡ u / h .settings .n % 2 → t / h .settings .n ≡ u / h .settings .n
+      chunk : Live h t → Live h u → t / h .clock .n % 2 ≡ u / h .clock .n % 2 → t / h .clock .n ≡ u / h .clock .n
       chunk (inl p) (inl q) half = omega arith
       chunk (inl p) (inr q) half = omega arith
       chunk (inr p) (inl q) half = omega arith

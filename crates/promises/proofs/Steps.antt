@@ -5,7 +5,7 @@ use mathlib.Core.Path.{_≡_}
 use mathlib.Core.List.{List, _++_, map}
 use mathlib.Core.Logic.{_↔_, ⊎-elim}
 use Rattle.graph.specs.Link.{Link, Chained}
-use Rattle.graph.specs.Forest.{climb, walk, Labelled, forestOf, EndsBelow}
+use Rattle.graph.specs.Forest.{walk, Labelled, forestOf, EndsBelow}
 use Rattle.graph.proofs.Chains.{chained-one, chained-carry, chained-left, chained-right, linked-append-cases}
 use Rattle.graph.proofs.Walks.{climb-way}
 use Rattle.graph.proofs.Forests.{grown, same-root}

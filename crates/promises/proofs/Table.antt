@@ -7,7 +7,7 @@ use Rattle.settings.specs.declared.Settings.{Settings}
 use Rattle.numbers.specs.Checks.{firstOf, unless}
 use Rattle.book.specs.Calls.{openingNumber}
 use Rattle.promises.specs.History.{opening, numberIn}
-use Rattle.promises.specs.Panel.{ours, State, gives}
+use Rattle.promises.specs.Implementation.{ours, State, gives}
 use Rattle.promises.specs.Demands.{roomIn, Table}
 use Rattle.promises.proofs.NumbersAgree.{opening-gives, number-agrees, asked-agrees}
 use Rattle.promises.proofs.Keeps.{room-after, keeps}

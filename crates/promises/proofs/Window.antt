@@ -22,8 +22,8 @@ use Rattle.slides.proofs.Slides.{place-rest}
 use Rattle.book_state.specs.declared.Book.{Book}
 use Rattle.book_state.specs.Log.{labelled}
 use Rattle.window.specs.Window.{windowSlides, linksOfAge, linksFromAge, windowLinks, linksFromLabel}
-use Rattle.promises.specs.History.{History, clockIn, openSlideIn, slideLinks, linksOf, inWindow, windowAt}
-use Rattle.promises.specs.Panel.{State}
+use Rattle.promises.specs.History.{History, openSlideIn, slideLinks, linksOf, inWindow, windowAt}
+use Rattle.promises.specs.Implementation.{State}
 use Rattle.promises.proofs.Agrees.{Kept, Agrees}
 use Rattle.promises.proofs.BySlide.{of-slide, InSlide, in-slide, turned-links, links-turned}
 use Rattle.promises.proofs.Split.{wide, in-window}
@@ -92,10 +92,10 @@ module _ (b : Book) (log : List ℕ) (j : ℕ) where
 
 module _ {h : History} {s : State} (agrees : Agrees h s) where
   -- the links of a slide of the window stand in the log
-  links-of-age : (age t : ℕ) → age + t ≡ openSlideIn h → age < h .settings .n →
+  links-of-age : (age t : ℕ) → age + t ≡ openSlideIn h → age < h .clock .n →
       linksOfAge (s .book) (s .log) age ≡ reverse (linksOf (slideLinks t (h .links)))
   links-of-age age t e young =
-      rw (agrees .clock, back, place-rest (clockIn h) (wide (agrees .sensible)) t, kept .count) (kept .links)
+      rw (agrees .clock, back, place-rest (h .clock) (wide (agrees .sensible)) t, kept .count) (kept .links)
     where
       back : openSlideIn h - age ≡ t
       back = omega arith
@@ -104,7 +104,7 @@ module _ {h : History} {s : State} (agrees : Agrees h s) where
       kept = agrees .kept t (⊎-map (λ q. q) (λ w. w .0) (in-window (agrees .sensible) t (omega arith) .0 (omega arith)))
 
   -- the book's open slide and its n are the history's
-  clock-is : (openSlide (s .book .clock) ≡ openSlideIn h) × (s .book .clock .n ≡ h .settings .n)
+  clock-is : (openSlide (s .book .clock) ≡ openSlideIn h) × (s .book .clock .n ≡ h .clock .n)
   clock-is = (ap openSlide (agrees .clock), ap (λ c. c .n) (agrees .clock))
 
   module _ (c : ℕ) where
@@ -116,18 +116,18 @@ module _ {h : History} {s : State} (agrees : Agrees h s) where
         found i =
             let same = clock-is in
             let t : ℕ = openSlideIn h - i .age in
-            of-slide _ t (h .links) (rw (le-leb t (openSlideIn h + c) (omega arith)) (lt-ltb (openSlideIn h + c) (t + h .settings .n) (omega arith)))
+            of-slide _ t (h .links) (rw (le-leb t (openSlideIn h + c) (omega arith)) (lt-ltb (openSlideIn h + c) (t + h .clock .n) (omega arith)))
             x y (turned-links _ x y (rw (links-of-age (i .age) t (omega arith) (omega arith)) at (i .linked)))
 
     pub window-book : Relinks (linksOf (windowAt h (openSlideIn h + c))) (linksFromLabel (suc c) (windowLinks (s .book) (s .log)))
     unfolding windowLinks
     window-book x y l = age-of (s .book) (s .log) (suc c) 0 (windowSlides (s .book)) x y (found (in-slide _ (agrees .sensible .falling) x y l))
       where
-        found : InSlide (inWindow (h .settings .n) (openSlideIn h + c)) (openSlideIn h) (h .links) x y →
+        found : InSlide (inWindow (h .clock .n) (openSlideIn h + c)) (openSlideIn h) (h .links) x y →
             OfAge (s .book) (s .log) (suc c) 0 (windowSlides (s .book)) x y
         found i =
             let same = clock-is in
-            let young : openSlideIn h + c < i .slide + h .settings .n = ltb-true _ _ (and-eq-true-iff (leb (i .slide) (openSlideIn h + c)) _ .0 (i .picked) .1) in
+            let young : openSlideIn h + c < i .slide + h .clock .n = ltb-true _ _ (and-eq-true-iff (leb (i .slide) (openSlideIn h + c)) _ .0 (i .picked) .1) in
             let age : ℕ = openSlideIn h - i .slide in
             record {
               age = age;

@@ -17,7 +17,7 @@ use Rattle.book_state.specs.declared.Book.{Book}
 use Rattle.book_joined.specs.declared.JoinedAnswer.{JoinedAnswer}
 use Rattle.book_state.specs.Arrays.{united, unitedAll}
 use Rattle.book_state.specs.Log.{linksAt, chunkLinks, stored}
-use Rattle.book_state.specs.Order.{inOrder, inOrderOf}
+use Rattle.book_state.specs.Order.{inOrderOf}
 use Rattle.book_time.specs.Time.{cleared, emptied, stayed, backwardOf, turned, movedByChunk, movedBook}
 use Rattle.numbers.specs.Checks.{firstOf, has}
 use Rattle.book_state.specs.Numbers.{logPlaces}

@@ -1,5 +1,5 @@
--- What the customer demands, of any panel, after any calls from any book and log. A history is what the calls and document
--- 01's table tell (History); it is there once an opening has given 0.
+-- What the customer demands of any implementation, after any calls from any book and log (RULES 10.5). A history is what the calls
+-- and the table tell (History); there is one once an opening has given 0.
 use Prim.Native.Nat.{ℕ, _+_, _≤_, _<_}
 use mathlib.Core.Path.{_≡_}
 use mathlib.Core.Logic.{_↔_}
@@ -31,7 +31,6 @@ use Rattle.promises.specs.History.{
   History,
   historyOf,
   numberIn,
-  clockIn,
   openSlideIn,
   linksOf,
   windowAt,
@@ -41,7 +40,7 @@ use Rattle.promises.specs.History.{
   backwardLinks,
   placeIn,
 }
-use Rattle.promises.specs.Panel.{Panel, State, gives, after, givesChain}
+use Rattle.promises.specs.Implementation.{Implementation, State, gives, after, givesChain}
 
 -- the log has its places
 abbrev pub roomIn : State → Bool
@@ -52,7 +51,7 @@ abbrev pub HasHistory : State → List Call → History → Type 0
 HasHistory s calls h = historyOf (roomIn s) calls ≡ some h
 
 -- 0. the number that the book gives is the number that the history gives; an opening's also where there is no history yet
-pub record Table (p : Panel) : Type 0 where
+pub record Table (p : Implementation) : Type 0 where
   pub openings : (s : State) (settings : Settings) →
       gives p s (opening settings) .number ≡ firstOf (takenNumber settings ∷ unless (roomIn s) 6 ∷ [])
   pub calls : (s : State) (cs : List Call) (h : History) → HasHistory s cs h → (c : Call) → gives p (after p s cs) c .number ≡ numberIn (roomIn s) h c
@@ -61,7 +60,7 @@ pub record Table (p : Panel) : Type 0 where
 
 -- 1. for every book, log and chain buffer, altered ones too: a number that is not 0 leaves them equal and the other fields 0, and
 -- no call changes a log place from 16,384 on
-pub record Refused (p : Panel) : Type 0 where
+pub record Refused (p : Implementation) : Type 0 where
   pub kept : (s : State) (c : Call) → (gives p s c .number ≡ 0 → ⊥) → (gives p s c .book ≡ s .book) × (gives p s c .log ≡ s .log)
   pub beyond : (s : State) (c : Call) → drop logPlaces (gives p s c .log) ≡ drop logPlaces (s .log)
   pub unanswered : (b : Book) (one other : ℕ) →
@@ -115,7 +114,7 @@ pub record WalksEnd (h : History) (c : ℕ) : Type 0 where
 
 -- 2. joined: yes exactly when the two are the same or links of the current window chain them; the count of forest steps is
 -- the rule's, never above 40
-pub record Joined (p : Panel) : Type 0 where
+pub record Joined (p : Implementation) : Type 0 where
   pub chained : (s : State) (cs : List Call) (h : History) → HasHistory s cs h → (one other : ℕ) → areCells one other ≡ true →
       (p .joinedGives (after p s cs .book) one other .yes ≡ true) ↔ Chained (windowOf h) one other
   pub steps : (s : State) (cs : List Call) (h : History) → HasHistory s cs h → (one other : ℕ) → areCells one other ≡ true →
@@ -132,29 +131,29 @@ pub record ChainGiven (h : History) (chain : List ℕ) (one other : ℕ) (o : Ch
   pub best : Best (linksSince h (o .answer .newest)) one other (take (o .answer .cells) (o .chain))
   pub long : length (take (o .answer .cells) (o .chain)) ≡ o .answer .cells
   pub rest : drop (o .answer .cells) (o .chain) ≡ drop (o .answer .cells) chain
-  pub hold : o .answer .hold + openSlideIn h + 1 ≡ o .answer .newest + h .settings .n
+  pub hold : o .answer .hold + openSlideIn h + 1 ≡ o .answer .newest + h .clock .n
 
 -- of two different cells: L is the largest slide such that links of slides L to k chain them, and for as many further closings as
 -- the hold says they stay joined if nothing is logged, and not for one more
-pub record DifferentCells (p : Panel) (s : State) (h : History) (one other : ℕ) (answer : ChainAnswer) : Type 0 where
+pub record DifferentCells (p : Implementation) (s : State) (h : History) (one other : ℕ) (answer : ChainAnswer) : Type 0 where
   pub chained : Chained (linksSince h (answer .newest)) one other
   pub largest : (l : ℕ) → answer .newest < l → Chained (linksSince h l) one other → ⊥
-  pub few : answer .hold < h .settings .n
+  pub few : answer .hold < h .clock .n
   -- a closing raises k by one, even where no tick could still reach that slide
   pub closings : (c : ℕ) → Chained (linksOf (windowAt h (openSlideIn h + c))) one other ↔ (c ≤ answer .hold)
   -- where a tick does, the clock call with it and then joined answer the same
-  pub clocks : (c tick : ℕ) → slideOf (clockIn h) tick ≡ openSlideIn h + c → notBefore (clockIn h) tick ≡ true →
+  pub clocks : (c tick : ℕ) → slideOf (h .clock) tick ≡ openSlideIn h + c → notBefore (h .clock) tick ≡ true →
       (p .joinedGives (gives p s (clock tick) .book) one other .yes ≡ true) ↔ (c ≤ answer .hold)
 
 -- for a cell and itself the chain is that one cell, L is taken as k + 1, and the hold is n, read as "always"
 pub record Itself (h : History) (one : ℕ) (o : ChainOutcome) : Type 0 where
   pub newest : o .answer .newest ≡ openSlideIn h + 1
-  pub hold : o .answer .hold ≡ h .settings .n
+  pub hold : o .answer .hold ≡ h .clock .n
   pub cell : take (o .answer .cells) (o .chain) ≡ one ∷ []
 
 -- for two cells and a chain buffer that has its places: 7 exactly when links of the current window do not chain the two,
 -- otherwise 0; and joined says yes exactly when the chain call gives 0
-pub record Answers (p : Panel) (s : State) (h : History) (chain : List ℕ) (one other : ℕ) : Type 0 where
+pub record Answers (p : Implementation) (s : State) (h : History) (chain : List ℕ) (one other : ℕ) : Type 0 where
   pub no-trail : (givesChain p s chain one other .answer .number ≡ 7) ↔ (Chained (windowOf h) one other → ⊥)
   pub done : (givesChain p s chain one other .answer .number ≡ 0) ↔ Chained (windowOf h) one other
   pub joins : (p .joinedGives (s .book) one other .yes ≡ true) ↔ (givesChain p s chain one other .answer .number ≡ 0)
@@ -165,7 +164,7 @@ pub record Answers (p : Panel) (s : State) (h : History) (chain : List ℕ) (one
 
 -- 3. chain: 6 exactly for a chain buffer that is too short, then 3 exactly where one is no cell, then 7 exactly where there is no
 -- trail, and never 1 or 8; and what it answers
-pub record Chain (p : Panel) : Type 0 where
+pub record Chain (p : Implementation) : Type 0 where
   pub number : (s : State) (cs : List Call) (h : History) → HasHistory s cs h → (chain : List ℕ) (one other : ℕ) →
       givesChain p (after p s cs) chain one other .answer .number
       ≡ firstOf

@@ -2,5 +2,5 @@ pub mod Cases
 pub mod Demands
 pub mod Fakes
 pub mod History
-pub mod Panel
+pub mod Implementation
 pub mod Single

@@ -1,5 +1,5 @@
--- A panel: what each call gives, as definitions. `ours` are those that the contracts cite. The demands are stated over any
--- panel, so that they can be proved of ours and refuted for fakes.
+-- An implementation is what each call gives, for every input (RULES 7). `ours` is the one that the contracts cite. The demands are
+-- stated of any implementation, so that they can be proved of ours and refuted for fakes (RULES 10.5).
 use Prim.Native.Nat.{ℕ}
 use mathlib.Core.List.{List, [], _∷_}
 use Rattle.numbers.specs.Kinds.{Cell}
@@ -11,14 +11,14 @@ use Rattle.book.specs.Calls.{Outcome, openingOf, linkOf, clockOf}
 use Rattle.chain.specs.Chain.{ChainOutcome, chainOf}
 use Rattle.promises.specs.History.{Call, opening, link, clock}
 
-pub record Panel : Type 0 where
+pub record Implementation : Type 0 where
   pub openingGives : Book → List ℕ → Settings → Outcome
   pub linkGives : Book → List ℕ → ℕ → ℕ → ℕ → Outcome
   pub clockGives : Book → List ℕ → ℕ → Outcome
   pub joinedGives : Book → ℕ → ℕ → JoinedAnswer
   pub chainGives : Book → List ℕ → List ℕ → ℕ → ℕ → ChainOutcome
 
-abbrev pub ours : Panel
+abbrev pub ours : Implementation
 ours =
     record {
       openingGives = openingOf;
@@ -28,7 +28,7 @@ ours =
       chainGives = chainOf;
     }
 
--- the book and its log together are the state
+-- the book and its log together are the state (RULES 7.7)
 pub record State : Type 0 where
   pub book : Book
   pub log : List ℕ
@@ -37,16 +37,16 @@ abbrev pub stateOf : Outcome → State
 stateOf o = record { book = o .book; log = o .log }
 
 -- what a call gives
-unfoldable pub gives : Panel → State → Call → Outcome
+unfoldable pub gives : Implementation → State → Call → Outcome
 gives p s (opening settings) = p .openingGives (s .book) (s .log) settings
 gives p s (link tick one other) = p .linkGives (s .book) (s .log) tick one other
 gives p s (clock tick) = p .clockGives (s .book) (s .log) tick
 
--- the state after calls, one after the other, from any book and log
-unfoldable pub after : Panel → State → List Call → State
+-- the state that calls leave, one after the other, from any book and log
+unfoldable pub after : Implementation → State → List Call → State
 after p s [] = s
 after p s (c ∷ cs) = after p (stateOf (gives p s c)) cs
 
 -- what the chain call gives, for a chain buffer and two cells
-abbrev pub givesChain : (panel : Panel) (state : State) (chain : List Cell) (one other : Cell) → ChainOutcome
+abbrev pub givesChain : (implementation : Implementation) (state : State) (chain : List Cell) (one other : Cell) → ChainOutcome
 givesChain p s chain one other = p .chainGives (s .book) (s .log) chain one other
