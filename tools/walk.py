@@ -826,19 +826,20 @@ unfolding code.routine tablesOf
 
 
 # ---- this project's structs, and the functions over a book
-CLOCK = Struct('slides', 'Clock', [('t0', 'u32'), ('b', 'u32'), ('time', 'u32'), ('n', 'u8')])
+CLOCK = Struct('slides', 'Clock', [('t0', 'u32'), ('b', 'u32'), ('time', 'u32'), ('n', 'u8'), ('pad', ('array', 'u8', 3))])
+FITTING = Struct('cells', 'Fitting', [('mounting', 'u8'), ('pad', ('array', 'u8', 3))])
 BOOK = Struct('book_state', 'Book', [
     ('forward_parent', ('array', 'u16', 1024)), ('forward_size', ('array', 'u16', 1024)), ('backward_parent', ('array', 'u16', 1024)),
     ('backward_size', ('array', 'u16', 1024)), ('counts', ('array', 'u16', 32)), ('clock', ('struct', CLOCK)),
-    ('backward_label', ('array', 'u8', 1024)), ('mounting', 'u8')])
+    ('backward_label', ('array', 'u8', 1024)), ('fitting', ('struct', FITTING))])
 SETTINGS = Struct('settings', 'Settings', [('t0', 'u32'), ('b', 'u32'), ('n', 'u8'), ('mounting', 'u8')])
-FIELDS_ANSWER = Struct('book', 'fields.FieldsAnswer', [('clock', ('struct', CLOCK)), ('mounting', 'u8'), ('number', 'u8')])
+FIELDS_ANSWER = Struct('book', 'fields.FieldsAnswer', [('clock', ('struct', CLOCK)), ('fitting', ('struct', FITTING)), ('number', 'u8')])
 JOINED_ANSWER = Struct('book_joined', 'JoinedAnswer', [('number', 'u8'), ('yes', 'bool'), ('steps', 'u8')])
 CHAIN_ANSWER = Struct('chain', 'ChainAnswer', [('newest', 'u64'), ('cells', 'u16'), ('hold', 'u8'), ('number', 'u8')])
 
 ARRAYS = ['counts', 'forward_parent', 'forward_size', 'backward_parent', 'backward_size', 'backward_label']
 # the fields in the order in which the functions over lent fields take them
-FIELDS = [('load', 'clock'), ('load', 'mounting')] + [('lend', f) for f in ARRAYS]
+FIELDS = [('load', 'clock'), ('load', 'fitting')] + [('lend', f) for f in ARRAYS]
 EACH = [('fields', [f]) for f in ARRAYS]  # a lifetime for each (elided)
 ONE = [('fields', ARRAYS)]  # one lifetime for all (<'a>)
 ZS = ' '.join(f'z-{dash(f)}' for f in ARRAYS)
@@ -848,21 +849,21 @@ SPECS = {
         crate='kerb', fn='kerb_link', struct=BOOK, ref='mut', callee=('book', 'fields.link'),
         params=[('slice-mut', 'log', 'u16'), ('num', 'tick', 'u32'), ('num', 'one', 'u16'), ('num', 'other', 'u16')],
         args=FIELDS + [('slice', 'log'), ('num', 'tick'), ('num', 'one'), ('num', 'other')], lifetimes=EACH + [('param', 'log')],
-        answer=('struct', FIELDS_ANSWER), stores=[('clock', 'clock'), ('mounting', 'mounting')], returns='number',
+        answer=('struct', FIELDS_ANSWER), stores=[('clock', 'clock'), ('fitting', 'fitting')], returns='number',
         uses=['use Rattle.book.specs.Calls.{GivesFields, linkOf}'],
         ensured=f'GivesFields (linkOf h l-log tick one other) r {ZS} z-log', says='e'),
     'kerb_clock': dict(
         crate='kerb', fn='kerb_clock', struct=BOOK, ref='mut', callee=('book', 'fields.clock'),
         params=[('slice-shr', 'log', 'u16'), ('num', 'tick', 'u32')],
         args=FIELDS + [('slice', 'log'), ('num', 'tick')], lifetimes=EACH + [('param', 'log')],
-        answer=('struct', FIELDS_ANSWER), stores=[('clock', 'clock'), ('mounting', 'mounting')], returns='number',
+        answer=('struct', FIELDS_ANSWER), stores=[('clock', 'clock'), ('fitting', 'fitting')], returns='number',
         uses=['use Rattle.book.specs.Calls.{GivesFields, clockOf}'],
         ensured=f'GivesFields (clockOf h l-log tick) r {ZS} l-log', says='e'),
     'kerb_opening': dict(
         crate='kerb', fn='kerb_opening', struct=BOOK, ref='mut', callee=('book', 'fields.opening'),
         params=[('slice-mut', 'log', 'u16'), ('num', 's', ('struct', SETTINGS))],
         args=FIELDS + [('slice', 'log'), ('num', 's')], lifetimes=EACH + [('param', 'log')],
-        answer=('struct', FIELDS_ANSWER), stores=[('clock', 'clock'), ('mounting', 'mounting')], returns='number',
+        answer=('struct', FIELDS_ANSWER), stores=[('clock', 'clock'), ('fitting', 'fitting')], returns='number',
         uses=['use Rattle.book.specs.Calls.{GivesFields, openingOf}'],
         ensured=f'GivesFields (openingOf h l-log s) r {ZS} z-log', says='e'),
     'kerb_joined': dict(

@@ -8,7 +8,7 @@ use mathlib.Core.List.{List, [], _∷_, _++_}
 use lib.Dec.{ltb}
 use lib.ListN.{length, getD, set, drop, replicate}
 use Rattle.numbers.specs.Kinds.{Cell, Counts, Labels, Log, Number, Parents, Sizes, Tick}
-use Rattle.settings.specs.Settings.{takenNumber}
+use Rattle.settings.specs.Settings.{takenNumber, fittingOf}
 use Rattle.settings.specs.declared.Settings.{Settings}
 use Rattle.cells.specs.Cell.{lorryCell}
 use Rattle.slides.specs.Clock.{notBefore, slideOf, openSlide, chunkOf, placeOf, started}
@@ -39,7 +39,7 @@ pub record Gives (o : Outcome) (answer : Answer) (log : List ℕ) : Type 0 where
 -- the same of an answer and the fields of a book that were lent
 abbrev pub GivesFields : (outcome : Outcome) (answer : FieldsAnswer) (counts : Counts) (forwardParent : Parents) (forwardSize : Sizes) (backwardParent : Parents) (backwardSize : Sizes) (backwardLabel : Labels) (log : Log) → Type 0
 GivesFields o answer counts forwardParent forwardSize backwardParent backwardSize backwardLabel log =
-    Gives o (record { book = bookOf (answer .clock) (answer .mounting) counts forwardParent forwardSize backwardParent backwardSize backwardLabel; number = answer .number }) log
+    Gives o (record { book = bookOf (answer .clock) (answer .fitting) counts forwardParent forwardSize backwardParent backwardSize backwardLabel; number = answer .number }) log
 
 -- ---- opening: 2, 6
 
@@ -48,7 +48,7 @@ openingNumber s log = firstOf (takenNumber s ∷ unless (has logPlaces log) 6 �
 
 unfoldable pub openingByNumber : (number : Number) (book : Book) (log : Log) (settings : Settings) → Outcome
 openingByNumber zero b log s =
-    record { book = emptied (started s) (s .mounting); log = replicate logPlaces 0 ++ drop logPlaces log; number = 0 }
+    record { book = emptied (started s) (fittingOf s); log = replicate logPlaces 0 ++ drop logPlaces log; number = 0 }
 openingByNumber (suc k) b log s = record { book = b; log = log; number = suc k }
 
 unfoldable pub openingOf : (book : Book) (log : Log) (settings : Settings) → Outcome
@@ -97,7 +97,7 @@ linkStored b log one other =
             counts = set (b .counts) spot (count + 1);
             clock = b .clock;
             «backward_label» = b .«backward_label»;
-            mounting = b .mounting;
+            fitting = b .fitting;
           };
       log = set (set log at one) (at + 1) other;
       number = 0;
@@ -106,7 +106,7 @@ linkStored b log one other =
 -- the time moves first; links arrive in the unit's numbers and are stored in the lorry's
 unfoldable pub linkByNumber : (number : Number) (book : Book) (log : Log) (tick : Tick) (one other : Cell) → Outcome
 linkByNumber zero b log tick one other =
-    linkStored (movedBook b log tick) log (lorryCell (b .mounting) one) (lorryCell (b .mounting) other)
+    linkStored (movedBook b log tick) log (lorryCell (b .fitting) one) (lorryCell (b .fitting) other)
 linkByNumber (suc k) b log tick one other = record { book = b; log = log; number = suc k }
 
 unfoldable pub linkOf : (book : Book) (log : Log) (tick : Tick) (one other : Cell) → Outcome

@@ -2,25 +2,27 @@
 use super::checks;
 use book_state::order;
 use book_state::spots;
+use cells::Fitting;
 use settings::Settings;
 ghost use mathlib.Core.Path.{_≡_};
 ghost use mathlib.Core.List.{List};
 ghost use Prim.Native.Nat.{ℕ};
+ghost use Rattle.cells.specs.declared.Fitting.{Fitting};
 ghost use Rattle.book_state.specs.Order.{bookOf};
 ghost use Rattle.book.specs.Calls.{GivesFields, Room, openingOf, linkOf, linkStored, clockOf};
 
-// What a call over lent fields gives: the clock and the mounting after it, and the number of the table.
+// What a call over lent fields gives: the clock and the fitting after it, and the number of the table.
 #[repr(C)]
 pub struct FieldsAnswer {
     pub clock: slides::Clock,
-    pub mounting: u8,
+    pub fitting: Fitting,
     pub number: u8,
 }
 
 // A link of two cells of the unit. The time moves first, and only for a link that is taken.
 pub fn link(
     clock: slides::Clock,
-    mounting: u8,
+    fitting: Fitting,
     counts: &mut [u16; 32],
     forward_parent: &mut [u16; 1024],
     forward_size: &mut [u16; 1024],
@@ -32,11 +34,11 @@ pub fn link(
     one: u16,
     other: u16,
 ) -> FieldsAnswer
-    ensures { λ r. ⌜ GivesFields (linkOf (bookOf clock mounting (now (counts .entry)) (now («forward_parent» .entry)) (now («forward_size» .entry)) (now («backward_parent» .entry)) (now («backward_size» .entry)) (now («backward_label» .entry))) (now (log .entry)) tick one other) r (now (counts .exit)) (now («forward_parent» .exit)) (now («forward_size» .exit)) (now («backward_parent» .exit)) (now («backward_size» .exit)) (now («backward_label» .exit)) (now (log .exit)) ⌝ }
+    ensures { λ r. ⌜ GivesFields (linkOf (bookOf clock fitting (now (counts .entry)) (now («forward_parent» .entry)) (now («forward_size» .entry)) (now («backward_parent» .entry)) (now («backward_size» .entry)) (now («backward_label» .entry))) (now (log .entry)) tick one other) r (now (counts .exit)) (now («forward_parent» .exit)) (now («forward_size» .exit)) (now («backward_parent» .exit)) (now («backward_size» .exit)) (now («backward_label» .exit)) (now (log .exit)) ⌝ }
 {
     let ordered = order::in_order(
         clock,
-        mounting,
+        fitting,
         counts,
         forward_parent,
         forward_size,
@@ -49,12 +51,12 @@ pub fn link(
     if number != 0 {
         return FieldsAnswer {
             clock,
-            mounting,
+            fitting,
             number,
         };
     }
-    let first = cells::lorry_cell(mounting, one);
-    let second = cells::lorry_cell(mounting, other);
+    let first = cells::lorry_cell(fitting, one);
+    let second = cells::lorry_cell(fitting, other);
     let moved = book_time::move_to(
         clock,
         counts,
@@ -77,7 +79,7 @@ pub fn link(
     );
     FieldsAnswer {
         clock: moved,
-        mounting,
+        fitting,
         number: 0,
     }
 }
@@ -93,7 +95,7 @@ fn store(
     other: u16,
 )
     requires { ⌜ Room clock (now counts) (now log) ⌝ }
-    ensures { λ _. ⌜ ((mounting : ℕ) (backwardParent backwardSize backwardLabel : List ℕ) → record { book = bookOf clock mounting (now (counts .exit)) (now («forward_parent» .exit)) (now («forward_size» .exit)) backwardParent backwardSize backwardLabel; log = now (log .exit); number = 0 } ≡ linkStored (bookOf clock mounting (now (counts .entry)) (now («forward_parent» .entry)) (now («forward_size» .entry)) backwardParent backwardSize backwardLabel) (now (log .entry)) one other) ⌝ }
+    ensures { λ _. ⌜ ((fitting : Fitting) (backwardParent backwardSize backwardLabel : List ℕ) → record { book = bookOf clock fitting (now (counts .exit)) (now («forward_parent» .exit)) (now («forward_size» .exit)) backwardParent backwardSize backwardLabel; log = now (log .exit); number = 0 } ≡ linkStored (bookOf clock fitting (now (counts .entry)) (now («forward_parent» .entry)) (now («forward_size» .entry)) backwardParent backwardSize backwardLabel) (now (log .entry)) one other) ⌝ }
 {
     let spot = spots::spot(clock, slides::open_slide(clock));
     let count = counts[spot];
@@ -109,7 +111,7 @@ fn store(
 // The time moves to the tick, and nothing is logged.
 pub fn clock(
     clock: slides::Clock,
-    mounting: u8,
+    fitting: Fitting,
     counts: &mut [u16; 32],
     forward_parent: &mut [u16; 1024],
     forward_size: &mut [u16; 1024],
@@ -119,11 +121,11 @@ pub fn clock(
     log: &[u16],
     tick: u32,
 ) -> FieldsAnswer
-    ensures { λ r. ⌜ GivesFields (clockOf (bookOf clock mounting (now (counts .entry)) (now («forward_parent» .entry)) (now («forward_size» .entry)) (now («backward_parent» .entry)) (now («backward_size» .entry)) (now («backward_label» .entry))) (now (log .entry)) tick) r (now (counts .exit)) (now («forward_parent» .exit)) (now («forward_size» .exit)) (now («backward_parent» .exit)) (now («backward_size» .exit)) (now («backward_label» .exit)) (now (log .entry)) ⌝ }
+    ensures { λ r. ⌜ GivesFields (clockOf (bookOf clock fitting (now (counts .entry)) (now («forward_parent» .entry)) (now («forward_size» .entry)) (now («backward_parent» .entry)) (now («backward_size» .entry)) (now («backward_label» .entry))) (now (log .entry)) tick) r (now (counts .exit)) (now («forward_parent» .exit)) (now («forward_size» .exit)) (now («backward_parent» .exit)) (now («backward_size» .exit)) (now («backward_label» .exit)) (now (log .entry)) ⌝ }
 {
     let ordered = order::in_order(
         clock,
-        mounting,
+        fitting,
         counts,
         forward_parent,
         forward_size,
@@ -135,7 +137,7 @@ pub fn clock(
     if number != 0 {
         return FieldsAnswer {
             clock,
-            mounting,
+            fitting,
             number,
         };
     }
@@ -152,7 +154,7 @@ pub fn clock(
     );
     FieldsAnswer {
         clock: moved,
-        mounting,
+        fitting,
         number: 0,
     }
 }
@@ -160,7 +162,7 @@ pub fn clock(
 // A fresh history, whatever the book was.
 pub fn opening(
     clock: slides::Clock,
-    mounting: u8,
+    fitting: Fitting,
     counts: &mut [u16; 32],
     forward_parent: &mut [u16; 1024],
     forward_size: &mut [u16; 1024],
@@ -170,13 +172,13 @@ pub fn opening(
     log: &mut [u16],
     s: Settings,
 ) -> FieldsAnswer
-    ensures { λ r. ⌜ GivesFields (openingOf (bookOf clock mounting (now (counts .entry)) (now («forward_parent» .entry)) (now («forward_size» .entry)) (now («backward_parent» .entry)) (now («backward_size» .entry)) (now («backward_label» .entry))) (now (log .entry)) s) r (now (counts .exit)) (now («forward_parent» .exit)) (now («forward_size» .exit)) (now («backward_parent» .exit)) (now («backward_size» .exit)) (now («backward_label» .exit)) (now (log .exit)) ⌝ }
+    ensures { λ r. ⌜ GivesFields (openingOf (bookOf clock fitting (now (counts .entry)) (now («forward_parent» .entry)) (now («forward_size» .entry)) (now («backward_parent» .entry)) (now («backward_size» .entry)) (now («backward_label» .entry))) (now (log .entry)) s) r (now (counts .exit)) (now («forward_parent» .exit)) (now («forward_size» .exit)) (now («backward_parent» .exit)) (now («backward_size» .exit)) (now («backward_label» .exit)) (now (log .exit)) ⌝ }
 {
     let number = checks::opening_number(s, log);
     if number != 0 {
         return FieldsAnswer {
             clock,
-            mounting,
+            fitting,
             number,
         };
     }
@@ -191,7 +193,7 @@ pub fn opening(
     *counts = [0; 32];
     FieldsAnswer {
         clock: slides::start(s),
-        mounting: s.mounting,
+        fitting: settings::fitting(s),
         number: 0,
     }
 }

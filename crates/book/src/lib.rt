@@ -26,7 +26,7 @@ pub fn opening(book: Book, log: &mut [u16], s: Settings) -> Answer
     let mut backward_label = book.backward_label;
     let answer = fields::opening(
         book.clock,
-        book.mounting,
+        book.fitting,
         &mut counts,
         &mut forward_parent,
         &mut forward_size,
@@ -37,6 +37,7 @@ pub fn opening(book: Book, log: &mut [u16], s: Settings) -> Answer
         s,
     );
     let clock = answer.clock;
+    let fitting = answer.fitting;
     let kept = Book {
         forward_parent,
         forward_size,
@@ -45,7 +46,7 @@ pub fn opening(book: Book, log: &mut [u16], s: Settings) -> Answer
         counts,
         clock,
         backward_label,
-        mounting: answer.mounting,
+        fitting,
     };
     Answer {
         book: kept,
@@ -65,7 +66,7 @@ pub fn link(book: Book, log: &mut [u16], tick: u32, one: u16, other: u16) -> Ans
     let mut backward_label = book.backward_label;
     let answer = fields::link(
         book.clock,
-        book.mounting,
+        book.fitting,
         &mut counts,
         &mut forward_parent,
         &mut forward_size,
@@ -78,6 +79,7 @@ pub fn link(book: Book, log: &mut [u16], tick: u32, one: u16, other: u16) -> Ans
         other,
     );
     let clock = answer.clock;
+    let fitting = answer.fitting;
     let kept = Book {
         forward_parent,
         forward_size,
@@ -86,7 +88,7 @@ pub fn link(book: Book, log: &mut [u16], tick: u32, one: u16, other: u16) -> Ans
         counts,
         clock,
         backward_label,
-        mounting: answer.mounting,
+        fitting,
     };
     Answer {
         book: kept,
@@ -106,7 +108,7 @@ pub fn clock(book: Book, log: &[u16], tick: u32) -> Answer
     let mut backward_label = book.backward_label;
     let answer = fields::clock(
         book.clock,
-        book.mounting,
+        book.fitting,
         &mut counts,
         &mut forward_parent,
         &mut forward_size,
@@ -117,6 +119,7 @@ pub fn clock(book: Book, log: &[u16], tick: u32) -> Answer
         tick,
     );
     let clock = answer.clock;
+    let fitting = answer.fitting;
     let kept = Book {
         forward_parent,
         forward_size,
@@ -125,7 +128,7 @@ pub fn clock(book: Book, log: &[u16], tick: u32) -> Answer
         counts,
         clock,
         backward_label,
-        mounting: answer.mounting,
+        fitting,
     };
     Answer {
         book: kept,

@@ -2,6 +2,7 @@
 use book_state::Book;
 use book_state::order;
 use forest::walks;
+use cells::Fitting;
 use slides::Clock;
 ghost use mathlib.Core.Path.{_≡_};
 ghost use mathlib.Core.Bool.{false, cond, not, _&&_};
@@ -30,7 +31,7 @@ pub fn joined(book: Book, one: u16, other: u16) -> JoinedAnswer
 {
     over_fields(
         book.clock,
-        book.mounting,
+        book.fitting,
         &book.counts,
         &book.forward_parent,
         &book.forward_size,
@@ -45,7 +46,7 @@ pub fn joined(book: Book, one: u16, other: u16) -> JoinedAnswer
 // The same over the fields of a book, each lent where it stands: no copy of the book is made.
 pub fn over_fields<'a>(
     clock: Clock,
-    mounting: u8,
+    fitting: Fitting,
     counts: &'a [u16; 32],
     forward_parent: &'a [u16; 1024],
     forward_size: &'a [u16; 1024],
@@ -55,11 +56,11 @@ pub fn over_fields<'a>(
     one: u16,
     other: u16,
 ) -> JoinedAnswer
-    ensures { λ r. ⌜ r ≡ joinedOf (bookOf clock mounting (now (counts .entry)) (now («forward_parent» .entry)) (now («forward_size» .entry)) (now («backward_parent» .entry)) (now («backward_size» .entry)) (now («backward_label» .entry))) one other ⌝ }
+    ensures { λ r. ⌜ r ≡ joinedOf (bookOf clock fitting (now (counts .entry)) (now («forward_parent» .entry)) (now («forward_size» .entry)) (now («backward_parent» .entry)) (now («backward_size» .entry)) (now («backward_label» .entry))) one other ⌝ }
 {
     let ordered = order::in_order(
         clock,
-        mounting,
+        fitting,
         counts,
         forward_parent,
         forward_size,

@@ -37,7 +37,7 @@ second-no-cell p q = simp (lt-ltb _ _ p, le-ltb _ _ q)
 -- test by test
 pub record Ordered (b : Book) : Type 0 where
   pub timely : clockInRange (b .clock) ≡ true
-  pub held : heldInRange (b .clock .n) (b .clock .b) (b .mounting) ≡ true
+  pub held : heldInRange (b .clock .n) (b .clock .b) (b .fitting .mounting) ≡ true
   pub few : every (within 0 257) 0 (b .counts) ≡ true
   pub forward : soundOf (b .«forward_parent») (b .«forward_size») stepLimit ≡ true
   pub backward : soundOf (b .«backward_parent») (b .«backward_size») stepLimit ≡ true
@@ -47,7 +47,7 @@ pub ordered : (b : Book) → inOrder b ≡ true → Ordered b
 unfolding inOrderOf
 ordered b e =
     let t = clockInRange (b .clock) in
-    let h = heldInRange (b .clock .n) (b .clock .b) (b .mounting) in
+    let h = heldInRange (b .clock .n) (b .clock .b) (b .fitting .mounting) in
     let f = every (within 0 257) 0 (b .counts) in
     let p = soundOf (b .«forward_parent») (b .«forward_size») stepLimit in
     let q = soundOf (b .«backward_parent») (b .«backward_size») stepLimit in

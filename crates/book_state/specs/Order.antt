@@ -5,6 +5,7 @@ use mathlib.Core.Bool.{Bool, _&&_}
 use mathlib.Core.List.{List}
 use lib.ListN.{replicate}
 use Rattle.numbers.specs.Kinds.{Counts, Labels, Parents, Sizes}
+use Rattle.cells.specs.declared.Fitting.{Fitting}
 use Rattle.settings.specs.Settings.{heldInRange}
 use Rattle.slides.specs.Clock.{clockInRange}
 use Rattle.slides.specs.declared.Clock.{Clock}
@@ -13,8 +14,8 @@ use Rattle.book_state.specs.declared.Book.{Book}
 use Rattle.book_state.specs.Arrays.{cells, stepLimit}
 
 -- the book of these fields
-abbrev pub bookOf : (clock : Clock) (mounting : ℕ) (counts : Counts) (forwardParent : Parents) (forwardSize : Sizes) (backwardParent : Parents) (backwardSize : Sizes) (backwardLabel : Labels) → Book
-bookOf clock mounting counts forwardParent forwardSize backwardParent backwardSize backwardLabel =
+abbrev pub bookOf : (clock : Clock) (fitting : Fitting) (counts : Counts) (forwardParent : Parents) (forwardSize : Sizes) (backwardParent : Parents) (backwardSize : Sizes) (backwardLabel : Labels) → Book
+bookOf clock fitting counts forwardParent forwardSize backwardParent backwardSize backwardLabel =
     record {
       «forward_parent» = forwardParent;
       «forward_size» = forwardSize;
@@ -23,14 +24,14 @@ bookOf clock mounting counts forwardParent forwardSize backwardParent backwardSi
       counts = counts;
       clock = clock;
       «backward_label» = backwardLabel;
-      mounting = mounting;
+      fitting = fitting;
     }
 
--- the fields one by one: clock, mounting, counts, forward parents and sizes, backward parents, sizes and labels
-unfoldable pub inOrderOf : (clock : Clock) (mounting : ℕ) (counts : Counts) (forwardParent : Parents) (forwardSize : Sizes) (backwardParent : Parents) (backwardSize : Sizes) (backwardLabel : Labels) → Bool
-inOrderOf clock mounting counts forwardParent forwardSize backwardParent backwardSize backwardLabel =
+-- the fields one by one: clock, fitting, counts, forward parents and sizes, backward parents, sizes and labels
+unfoldable pub inOrderOf : (clock : Clock) (fitting : Fitting) (counts : Counts) (forwardParent : Parents) (forwardSize : Sizes) (backwardParent : Parents) (backwardSize : Sizes) (backwardLabel : Labels) → Bool
+inOrderOf clock fitting counts forwardParent forwardSize backwardParent backwardSize backwardLabel =
     clockInRange clock
-    && heldInRange (clock .n) (clock .b) mounting
+    && heldInRange (clock .n) (clock .b) (fitting .mounting)
     && every (within 0 257) 0 counts
     && soundOf forwardParent forwardSize stepLimit
     && soundOf backwardParent backwardSize stepLimit
@@ -38,7 +39,7 @@ inOrderOf clock mounting counts forwardParent forwardSize backwardParent backwar
 
 abbrev pub inOrder : Book → Bool
 inOrder b =
-    inOrderOf (b .clock) (b .mounting) (b .counts) (b .«forward_parent») (b .«forward_size») (b .«backward_parent») (b .«backward_size») (b .«backward_label»)
+    inOrderOf (b .clock) (b .fitting) (b .counts) (b .«forward_parent») (b .«forward_size») (b .«backward_parent») (b .«backward_size») (b .«backward_label»)
 
 -- a book that was never opened: every number is 0
 unfoldable pub neverOpened : Book
@@ -49,7 +50,7 @@ neverOpened =
       «backward_parent» = replicate cells 0;
       «backward_size» = replicate cells 0;
       counts = replicate 32 0;
-      clock = record { t0 = 0; b = 0; time = 0; n = 0 };
+      clock = record { t0 = 0; b = 0; time = 0; n = 0; pad = replicate 3 0 };
       «backward_label» = replicate cells 0;
-      mounting = 0;
+      fitting = record { mounting = 0; pad = replicate 3 0 };
     }

@@ -19,7 +19,7 @@ pub struct Book {
     pub counts: [u16; 32],
     pub clock: slides::Clock,
     pub backward_label: [u8; 1024],
-    pub mounting: u8,
+    pub fitting: cells::Fitting,
 }
 
 // A book that was never opened: every call but opening gives 1 for it.
@@ -31,6 +31,11 @@ pub fn never_opened() -> Book
         b: 0,
         time: 0,
         n: 0,
+        pad: [0; 3],
+    };
+    let fitting = cells::Fitting {
+        mounting: 0,
+        pad: [0; 3],
     };
     Book {
         forward_parent: [0; 1024],
@@ -40,6 +45,6 @@ pub fn never_opened() -> Book
         counts: [0; 32],
         clock,
         backward_label: [0; 1024],
-        mounting: 0,
+        fitting,
     }
 }

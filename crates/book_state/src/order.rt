@@ -1,4 +1,5 @@
 // Number 1 (RULES 7.8), for a whole book: its fields are in their ranges, and no walk in either forest exceeds 10 steps.
+use cells::Fitting;
 use settings::Settings;
 use slides::Clock;
 ghost use mathlib.Core.Path.{_≡_};
@@ -7,7 +8,7 @@ ghost use Rattle.book_state.specs.Order.{inOrderOf};
 // Whether the book with these fields is in order.
 pub fn in_order<'a>(
     clock: Clock,
-    mounting: u8,
+    fitting: Fitting,
     counts: &'a [u16],
     forward_parent: &'a [u16],
     forward_size: &'a [u16],
@@ -15,7 +16,7 @@ pub fn in_order<'a>(
     backward_size: &'a [u16],
     backward_label: &'a [u8],
 ) -> bool
-    ensures { λ r. ⌜ r ≡ inOrderOf clock mounting (now (counts .entry)) (now («forward_parent» .entry)) (now («forward_size» .entry)) (now («backward_parent» .entry)) (now («backward_size» .entry)) (now («backward_label» .entry)) ⌝ }
+    ensures { λ r. ⌜ r ≡ inOrderOf clock fitting (now (counts .entry)) (now («forward_parent» .entry)) (now («forward_size» .entry)) (now («backward_parent» .entry)) (now («backward_size» .entry)) (now («backward_label» .entry)) ⌝ }
 {
     if !slides::in_range(clock) {
         return false;
@@ -24,7 +25,7 @@ pub fn in_order<'a>(
         t0: clock.t0,
         b: clock.b,
         n: clock.n,
-        mounting,
+        mounting: fitting.mounting,
     };
     if settings::judge(held) != 0 {
         return false;

@@ -8,6 +8,7 @@ use native.Mathlib.Nat.{zero-add, suc-add}
 use borrow.Author.Tests.{eq-eqb, ne-eqb}
 use lib.ListN.{length, getD, take, drop, replicate, length-drop, length-replicate, getD-replicate, drop-of-length-le, List·getD-append}
 use lib.Seq.{take-all, drop-nil, drop-drop}
+use Rattle.cells.specs.declared.Fitting.{Fitting}
 use Rattle.slides.specs.Clock.{slideOf, openSlide, chunkOf, placeOf, movedTo}
 use Rattle.slides.specs.declared.Clock.{Clock}
 use Rattle.forest.specs.Arrays.{freshParents, freshSizes, freshLabels}
@@ -34,14 +35,14 @@ module _ (b : Book) (log : List ℕ) (tick : ℕ) where
   moved-next e = rw (ne-eqb (chunkAfter b tick) (chunkBefore b) (λ s. omega arith), eq-eqb _ _ e)
 
   pub moved-further : (chunkAfter b tick ≡ chunkBefore b → ⊥) → (chunkAfter b tick ≡ chunkBefore b + 1 → ⊥)
-      → movedBook b log tick ≡ emptied (movedTo (b .clock) tick) (b .mounting)
+      → movedBook b log tick ≡ emptied (movedTo (b .clock) tick) (b .fitting)
   unfolding movedBook movedByChunk
   moved-further e d = rw (ne-eqb _ _ e, ne-eqb _ _ d)
 
   pub moved-cases : (P : Book → Type 0)
       → (chunkAfter b tick ≡ chunkBefore b → P (stayed b (movedTo (b .clock) tick)))
       → (chunkAfter b tick ≡ chunkBefore b + 1 → P (turned b log (movedTo (b .clock) tick)))
-      → ((chunkAfter b tick ≡ chunkBefore b → ⊥) → (chunkAfter b tick ≡ chunkBefore b + 1 → ⊥) → P (emptied (movedTo (b .clock) tick) (b .mounting)))
+      → ((chunkAfter b tick ≡ chunkBefore b → ⊥) → (chunkAfter b tick ≡ chunkBefore b + 1 → ⊥) → P (emptied (movedTo (b .clock) tick) (b .fitting)))
       → P (movedBook b log tick)
   moved-cases P same next further = by (ℕ-discrete (chunkAfter b tick) (chunkBefore b)) (ℕ-discrete (chunkAfter b tick) (chunkBefore b + 1))
     where
@@ -57,9 +58,9 @@ module _ (b : Book) (log : List ℕ) (tick : ℕ) where
 
 -- ---- further
 
-pub emptied-made : (clock : Clock) (mounting : ℕ) {fp fs bp bs bl : List ℕ} → Fresh fp fs bp bs bl → bookOf clock mounting (replicate 32 0) fp fs bp bs bl ≡ emptied clock mounting
+pub emptied-made : (clock : Clock) (fitting : Fitting) {fp fs bp bs bl : List ℕ} → Fresh fp fs bp bs bl → bookOf clock fitting (replicate 32 0) fp fs bp bs bl ≡ emptied clock fitting
 unfolding emptied
-emptied-made clock mounting f = rw (f .forward-parents, f .forward-sizes, f .backward-parents, f .backward-sizes, f .backward-labels)
+emptied-made clock fitting f = rw (f .forward-parents, f .forward-sizes, f .backward-parents, f .backward-sizes, f .backward-labels)
 
 -- ---- the next chunk
 
@@ -75,7 +76,7 @@ other-half e = omega arith
 
 pub turned-made : (b : Book) (log : List ℕ) (clock : Clock) {fp fs counts : List ℕ} {a : Arrays} → fp ≡ freshParents cells → fs ≡ freshSizes cells
     → a ≡ backwardOf b log → counts ≡ cleared (halfOf (chunkBefore b + 1)) (b .counts)
-    → bookOf clock (b .mounting) counts fp fs (a .parents) (a .sizes) (a .labels) ≡ turned b log clock
+    → bookOf clock (b .fitting) counts fp fs (a .parents) (a .sizes) (a .labels) ≡ turned b log clock
 unfolding turned
 turned-made b log clock p s e k = rw (p, s, e, k)
 

@@ -8,6 +8,7 @@ use mathlib.Core.List.{List, _++_}
 use lib.Dec.{eqb}
 use lib.ListN.{take, drop, replicate}
 use Rattle.numbers.specs.Kinds.{Counts, Log, Tick}
+use Rattle.cells.specs.declared.Fitting.{Fitting}
 use Rattle.slides.specs.Clock.{slideOf, openSlide, chunkOf, movedTo}
 use Rattle.slides.specs.declared.Clock.{Clock}
 use Rattle.book_state.specs.declared.Book.{Book}
@@ -18,9 +19,9 @@ use Rattle.book_state.specs.Log.{halfOf, chunkLinks}
 unfoldable pub cleared : (half : ℕ) (counts : Counts) → Counts
 cleared half counts = take (half * 16) counts ++ (replicate 16 0 ++ drop (half * 16 + 16) counts)
 
--- a book with this clock and mounting and nothing stored
-unfoldable pub emptied : (clock : Clock) (mounting : ℕ) → Book
-emptied clock mounting =
+-- a book with this clock and fitting and nothing stored
+unfoldable pub emptied : (clock : Clock) (fitting : Fitting) → Book
+emptied clock fitting =
     record {
       «forward_parent» = freshArrays .parents;
       «forward_size» = freshArrays .sizes;
@@ -29,7 +30,7 @@ emptied clock mounting =
       counts = replicate 32 0;
       clock = clock;
       «backward_label» = freshArrays .labels;
-      mounting = mounting;
+      fitting = fitting;
     }
 
 -- both forests are such
@@ -51,7 +52,7 @@ stayed b clock =
       counts = b .counts;
       clock = clock;
       «backward_label» = b .«backward_label»;
-      mounting = b .mounting;
+      fitting = b .fitting;
     }
 
 -- the backward forest of the chunk that ends; place 0 is never scanned
@@ -71,14 +72,14 @@ turned b log clock =
       counts = cleared (halfOf (chunkOf (b .clock) (openSlide (b .clock)) + 1)) (b .counts);
       clock = clock;
       «backward_label» = back .labels;
-      mounting = b .mounting;
+      fitting = b .fitting;
     }
 
 -- by whether the chunk is the same, and whether it is the next
 unfoldable pub movedByChunk : (same next : Bool) (book : Book) (log : Log) (clock : Clock) → Book
 movedByChunk true next b log clock = stayed b clock
 movedByChunk false true b log clock = turned b log clock
-movedByChunk false false b log clock = emptied clock (b .mounting)
+movedByChunk false false b log clock = emptied clock (b .fitting)
 
 -- the book when its time has moved to the tick
 unfoldable pub movedBook : (book : Book) (log : Log) (tick : Tick) → Book

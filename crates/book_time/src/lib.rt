@@ -6,6 +6,7 @@ ghost use mathlib.Core.Path.{_≡_};
 ghost use mathlib.Core.List.{map, []};
 ghost use Prim.Native.Nat.{ℕ, _+_, _-_, _*_, _≤_, _<_};
 ghost use lib.ListN.{length};
+ghost use Rattle.cells.specs.declared.Fitting.{Fitting};
 ghost use Rattle.book_state.specs.Arrays.{arraysOf, unitedAll};
 ghost use Rattle.book_state.specs.Log.{Readable, keep, labelled, linksAt, chunkLinks};
 ghost use Rattle.book_state.specs.Order.{bookOf};
@@ -41,7 +42,7 @@ pub fn move_to(
     tick: u32,
 ) -> Clock
     requires { ⌜ Readable (clock .n) (now counts) (now log) ⌝ }
-    ensures { λ r. ⌜ ((mounting : ℕ) → bookOf r mounting (now (counts .exit)) (now («forward_parent» .exit)) (now («forward_size» .exit)) (now («backward_parent» .exit)) (now («backward_size» .exit)) (now («backward_label» .exit)) ≡ movedBook (bookOf clock mounting (now (counts .entry)) (now («forward_parent» .entry)) (now («forward_size» .entry)) (now («backward_parent» .entry)) (now («backward_size» .entry)) (now («backward_label» .entry))) (now (log .entry)) tick) ⌝ }
+    ensures { λ r. ⌜ ((fitting : Fitting) → bookOf r fitting (now (counts .exit)) (now («forward_parent» .exit)) (now («forward_size» .exit)) (now («backward_parent» .exit)) (now («backward_size» .exit)) (now («backward_label» .exit)) ≡ movedBook (bookOf clock fitting (now (counts .entry)) (now («forward_parent» .entry)) (now («forward_size» .entry)) (now («backward_parent» .entry)) (now («backward_size» .entry)) (now («backward_label» .entry))) (now (log .entry)) tick) ⌝ }
 {
     let before = slides::chunk(clock, slides::open_slide(clock));
     let after = slides::chunk(clock, slides::slide(clock, tick));

@@ -9,6 +9,7 @@ use Prim.Native.Nat.{ℕ, _+_, _*_, _-_, _/_, _%_}
 use mathlib.Core.Bool.{cond}
 use lib.Dec.{eqb, ltb}
 use Rattle.numbers.specs.Kinds.{Cell}
+use Rattle.cells.specs.declared.Fitting.{Fitting}
 
 -- there are 16 rings
 abbrev pub rings : ℕ
@@ -55,5 +56,6 @@ cells = cellsOver sectors
 abbrev pub mirror : ℕ → ℕ
 mirror = mirrorOver sectors
 
-abbrev pub lorryCell : (mounting : ℕ) (cell : Cell) → Cell
-lorryCell = lorryCellOver sectors
+-- by the way the unit is fitted
+abbrev pub lorryCell : (fitting : Fitting) (cell : Cell) → Cell
+lorryCell fitting = lorryCellOver sectors (fitting .mounting)

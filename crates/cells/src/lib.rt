@@ -5,6 +5,15 @@ use table::MIRROR;
 ghost use mathlib.Core.Path.{_≡_};
 ghost use Rattle.cells.specs.Cell.{mirror, lorryCell};
 
+// How a unit is fitted to its lorry (RULES 1.3).
+#[repr(C)]
+pub struct Fitting {
+    // 1 plain, 2 mirrored; 0 means that it was never set
+    pub mounting: u8,
+    // no meaning: every byte is a field's, so that none is left undefined
+    pub pad: [u8; 3],
+}
+
 // The lorry's number of a mirrored unit's cell. A number that is no cell comes back unchanged.
 pub fn mirrored(cell: u16) -> u16
     ensures { λ r. ⌜ r ≡ mirror cell ⌝ }
@@ -17,8 +26,12 @@ pub fn mirrored(cell: u16) -> u16
 }
 
 // The lorry's number of a unit's cell: mounting 2 is the mirrored one, and no other changes the number.
-pub fn lorry_cell(mounting: u8, cell: u16) -> u16
-    ensures { λ r. ⌜ r ≡ lorryCell mounting cell ⌝ }
+pub fn lorry_cell(fitting: Fitting, cell: u16) -> u16
+    ensures { λ r. ⌜ r ≡ lorryCell fitting cell ⌝ }
 {
-    if mounting == 2 { mirrored(cell) } else { cell }
+    if fitting.mounting == 2 {
+        mirrored(cell)
+    } else {
+        cell
+    }
 }

@@ -23,7 +23,7 @@ pub fn chain(book: Book, log: &[u16], one: u16, other: u16, chain: &mut [u16]) -
 {
     let ordered = book_state::order::in_order(
         book.clock,
-        book.mounting,
+        book.fitting,
         &book.counts,
         &book.forward_parent,
         &book.forward_size,

@@ -33,7 +33,7 @@ pub extern "C" fn kerb_opening(book: &mut Book, log: &mut [u16], s: Settings) ->
 {
     let opened = fields::opening(
         book.clock,
-        book.mounting,
+        book.fitting,
         &mut book.counts,
         &mut book.forward_parent,
         &mut book.forward_size,
@@ -44,7 +44,7 @@ pub extern "C" fn kerb_opening(book: &mut Book, log: &mut [u16], s: Settings) ->
         s,
     );
     book.clock = opened.clock;
-    book.mounting = opened.mounting;
+    book.fitting = opened.fitting;
     opened.number
 }
 
@@ -55,7 +55,7 @@ pub extern "C" fn kerb_link(book: &mut Book, log: &mut [u16], tick: u32, one: u1
 {
     let linked = fields::link(
         book.clock,
-        book.mounting,
+        book.fitting,
         &mut book.counts,
         &mut book.forward_parent,
         &mut book.forward_size,
@@ -68,7 +68,7 @@ pub extern "C" fn kerb_link(book: &mut Book, log: &mut [u16], tick: u32, one: u1
         other,
     );
     book.clock = linked.clock;
-    book.mounting = linked.mounting;
+    book.fitting = linked.fitting;
     linked.number
 }
 
@@ -79,7 +79,7 @@ pub extern "C" fn kerb_clock(book: &mut Book, log: &[u16], tick: u32) -> u8
 {
     let moved = fields::clock(
         book.clock,
-        book.mounting,
+        book.fitting,
         &mut book.counts,
         &mut book.forward_parent,
         &mut book.forward_size,
@@ -90,7 +90,7 @@ pub extern "C" fn kerb_clock(book: &mut Book, log: &[u16], tick: u32) -> u8
         tick,
     );
     book.clock = moved.clock;
-    book.mounting = moved.mounting;
+    book.fitting = moved.fitting;
     moved.number
 }
 
@@ -101,7 +101,7 @@ pub extern "C" fn kerb_joined(book: &Book, one: u16, other: u16) -> JoinedAnswer
 {
     book_joined::over_fields(
         book.clock,
-        book.mounting,
+        book.fitting,
         &book.counts,
         &book.forward_parent,
         &book.forward_size,

@@ -27,7 +27,7 @@ windowLine clock mounting = line windowWord (clock .n ∷ clock .b ∷ mounting 
 -- that line; the groups; links stored in the window, repeats counted
 unfoldable pub bookText : (book : Book) (log : Log) → Bytes
 bookText b log =
-    windowLine (b .clock) (b .mounting)
+    windowLine (b .clock) (b .fitting .mounting)
     ++ groupLines (b .clock .n) (windowLinks b log)
     ++ line linksWord (length (windowLinks b log) ∷ [])
 

@@ -5,6 +5,8 @@
 use Prim.Native.Nat.{ℕ}
 use mathlib.Core.Bool.{Bool, cond, _&&_, _||_}
 use lib.Dec.{eqb, leb}
+use lib.ListN.{replicate}
+use Rattle.cells.specs.declared.Fitting.{Fitting}
 use Rattle.settings.specs.declared.Settings.{Settings}
 
 -- n is 1 to 16, B at least 1, and the mounting 1 or 2; mounting 0 means that it was never set
@@ -22,3 +24,7 @@ takenNumber = settingsNumber
 -- what a book may hold
 abbrev pub heldInRange : ℕ → ℕ → ℕ → Bool
 heldInRange = inRange
+
+-- how the unit is fitted (RULES 1.3)
+abbrev pub fittingOf : Settings → Fitting
+fittingOf s = record { mounting = s .mounting; pad = replicate 3 0 }

@@ -1,6 +1,7 @@
 // What a book opens with and a link file carries: window width n, slide length B, mounting, first tick T0.
+use cells::Fitting;
 ghost use mathlib.Core.Path.{_≡_};
-ghost use Rattle.settings.specs.Settings.{settingsNumber};
+ghost use Rattle.settings.specs.Settings.{settingsNumber, fittingOf};
 
 #[repr(C)]
 pub struct Settings {
@@ -35,4 +36,14 @@ pub fn judge(s: Settings) -> u8
         return 0;
     }
     2
+}
+
+// How the unit is fitted.
+pub fn fitting(s: Settings) -> Fitting
+    ensures { λ r. ⌜ r ≡ fittingOf s ⌝ }
+{
+    Fitting {
+        mounting: s.mounting,
+        pad: [0; 3],
+    }
 }

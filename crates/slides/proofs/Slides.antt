@@ -6,6 +6,7 @@
 use Prim.Native.Nat.{ℕ, zero, suc, _+_, _-_, _*_, _/_, _%_, _^_, _≤_, _<_}
 use mathlib.Core.Bool.{Bool, true, false, cond, _&&_, _||_, false≢true}
 use mathlib.Core.Logic.{_⊎_, inl, inr, _↔_, ⊎-elim}
+use mathlib.Core.List.{List}
 use mathlib.Core.Path.{_≡_, refl, ap}
 use lib.Dec.{eqb, leb}
 use borrow.Author.Tests.{le-leb, leb-true, ne-eqb}
@@ -85,9 +86,9 @@ module _ (clock : Clock) (tick : ℕ) where
   slide-below fits = lt-of-le-of-lt (le-trans (div-le-self (tick - clock .t0) (clock .b)) (sub-le tick (clock .t0))) fits
 
 -- the last slide of all: slides of one tick, from 0 to the last tick
-pub slide-last : (time n : ℕ) → slideOf (record { t0 = 0; b = 1; time = time; n = n }) 4294967295 ≡ 4294967295
+pub slide-last : (time n : ℕ) (pad : List ℕ) → slideOf (record { t0 = 0; b = 1; time = time; n = n; pad = pad }) 4294967295 ≡ 4294967295
 unfolding slideOf
-slide-last time n = refl
+slide-last time n pad = refl
 
 -- ---- chunks and places
 

@@ -4,6 +4,7 @@
 use Prim.Native.Nat.{ℕ, _-_, _/_, _%_}
 use mathlib.Core.Bool.{Bool, cond, _&&_}
 use lib.Dec.{eqb, leb}
+use lib.ListN.{replicate}
 use Rattle.numbers.specs.Kinds.{Chunk, Place, Slide, Tick}
 use Rattle.settings.specs.Settings.{heldInRange}
 use Rattle.settings.specs.declared.Settings.{Settings}
@@ -31,11 +32,12 @@ placeOf clock slide = cond (eqb (clock .n) 0) 0 (slide % clock .n)
 
 -- time starts at T0
 abbrev pub started : Settings → Clock
-started s = record { t0 = s .t0; b = s .b; time = s .t0; n = s .n }
+started s = record { t0 = s .t0; b = s .b; time = s .t0; n = s .n; pad = replicate 3 0 }
 
 -- a tick that is not before the time becomes the time; any other tick leaves the clock as it is
 unfoldable pub movedTo : (clock : Clock) (tick : Tick) → Clock
-movedTo clock tick = record { t0 = clock .t0; b = clock .b; time = cond (notBefore clock tick) tick (clock .time); n = clock .n }
+movedTo clock tick =
+    record { t0 = clock .t0; b = clock .b; time = cond (notBefore clock tick) tick (clock .time); n = clock .n; pad = clock .pad }
 
 -- n and B are such as a book may hold (under either mounting: 1 stands for it), and the time is not before T0
 unfoldable pub clockInRange : Clock → Bool

@@ -14,6 +14,8 @@ pub struct Clock {
     pub time: u32,
     // the window width in slides
     pub n: u8,
+    // no meaning: every byte is a field's, so that none is left undefined
+    pub pad: [u8; 3],
 }
 
 // The clock of a book that opens: time starts at T0.
@@ -25,6 +27,7 @@ pub fn start(s: Settings) -> Clock
         b: s.b,
         time: s.t0,
         n: s.n,
+        pad: [0; 3],
     }
 }
 
@@ -97,16 +100,11 @@ pub fn place(clock: Clock, slide: u64) -> u8
 pub fn moved(clock: Clock, tick: u32) -> Clock
     ensures { λ r. ⌜ r ≡ movedTo clock tick ⌝ }
 {
+    let mut later = clock;
     if not_before(clock, tick) {
-        Clock {
-            t0: clock.t0,
-            b: clock.b,
-            time: tick,
-            n: clock.n,
-        }
-    } else {
-        clock
+        later.time = tick;
     }
+    later
 }
 
 // The clock's record, lent and altered there.

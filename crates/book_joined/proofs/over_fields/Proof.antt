@@ -44,7 +44,7 @@ module _ (b : Book) (one other : ℕ) where
 -- the book of the lent fields, at the function's entry
 abbrev book : tie.Start → Book
 book c =
-    bookOf (c .args .clock) (c .args .mounting) (c .args .counts .now) (c .args .forward-parent .now) (c .args .forward-size .now) (c .args .backward-parent .now) (c .args .backward-size .now) (c .args .backward-label .now)
+    bookOf (c .args .clock) (c .args .fitting) (c .args .counts .now) (c .args .forward-parent .now) (c .args .forward-size .now) (c .args .backward-parent .now) (c .args .backward-size .now) (c .args .backward-label .now)
 
 -- the entry, from where number 1 is known
 abbrev entry : tie.After-in-order → tie.Start

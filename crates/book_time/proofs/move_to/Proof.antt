@@ -1,9 +1,11 @@
 -- `book_time::move_to` meets its contract: each way out is one case of the step (proofs/Moves.antt).
+use mathlib.Core.List.{[]}
 use Prim.Native.Nat.{ℕ, _+_, _<_}
 use mathlib.Core.Path.{_≡_, sym, _∙_, ap}
 use native.Mathlib.Omega.{arith}
 use native.Mathlib.Nat.{div-le-self}
 use borrow.Author.Needs.{needs}
+use Rattle.cells.specs.declared.Fitting.{Fitting}
 use Rattle.slides.specs.Clock.{openSlide, chunkOf}
 use Rattle.slides.proofs.Slides.{slide-below}
 use Rattle.book_state.specs.declared.Book.{Book}
@@ -17,16 +19,16 @@ use Rattle.book_time.proofs.move_to.Tie as tie
 abbrev entry : tie.After-advanced → tie.Start
 entry c = c .before .before .before .before .before .before
 
-abbrev book : tie.Start → ℕ → Book
-book c mounting =
-    bookOf (c .args .clock) mounting (c .args .counts .now) (c .args .forward-parent .now) (c .args .forward-size .now) (c .args .backward-parent .now) (c .args .backward-size .now) (c .args .backward-label .now)
+abbrev book : tie.Start → Fitting → Book
+book c fitting =
+    bookOf (c .args .clock) fitting (c .args .counts .now) (c .args .forward-parent .now) (c .args .forward-size .now) (c .args .backward-parent .now) (c .args .backward-size .now) (c .args .backward-label .now)
 
 -- what the two chunks are
-before : (c : tie.After-advanced) (mounting : ℕ) → c .before .before .before .chunk .result ≡ chunkBefore (book (entry c) mounting)
-before c mounting = c .before .before .before .chunk .ensures ∙ ap (chunkOf (entry c .args .clock)) (c .before .before .before .before .open-slide .ensures)
+before : (c : tie.After-advanced) (fitting : Fitting) → c .before .before .before .chunk .result ≡ chunkBefore (book (entry c) fitting)
+before c fitting = c .before .before .before .chunk .ensures ∙ ap (chunkOf (entry c .args .clock)) (c .before .before .before .before .open-slide .ensures)
 
-after : (c : tie.After-advanced) (mounting : ℕ) → c .before .chunk2 .result ≡ chunkAfter (book (entry c) mounting) (entry c .args .tick)
-after c mounting = c .before .chunk2 .ensures ∙ ap (chunkOf (entry c .args .clock)) (c .before .before .slide .ensures)
+after : (c : tie.After-advanced) (fitting : Fitting) → c .before .chunk2 .result ≡ chunkAfter (book (entry c) fitting) (entry c .args .tick)
+after c fitting = c .before .chunk2 .ensures ∙ ap (chunkOf (entry c .args .clock)) (c .before .before .slide .ensures)
 
 -- a slide has 32 bits
 small : (c : tie.After-advanced) → openSlide (entry c .args .clock) < 4294967296
@@ -49,10 +51,10 @@ advanced-requires c κs = search needs
 
 returns : tie.Need-returns
 unfolding stayed
-returns c mounting =
+returns c fitting =
     let d = c .before in
-    ap (stayed (book (entry d) mounting)) (d .advanced .ensures)
-    ∙ sym (moved-same _ (entry d .args .log .now) _ (sym (after d mounting) ∙ c .if1 .taken ∙ before d mounting))
+    ap (stayed (book (entry d) fitting)) (d .advanced .ensures)
+    ∙ sym (moved-same _ (entry d .args .log .now) _ (sym (after d fitting) ∙ c .if1 .taken ∙ before d fitting))
 
 freshen-requires : tie.Need-freshen-requires
 freshen-requires c κs = search needs
@@ -65,15 +67,15 @@ add-if2 : tie.Need-add-if2
 add-if2 c =
     let d = advanced-of c in
     let clock = entry d .args .clock in
-    omega (arith, before d 0, div-le-self (openSlide clock) (clock .n), small d)
+    omega (arith, before d (record { mounting = 0; pad = [] }), div-le-self (openSlide clock) (clock .n), small d)
 
 returns-2 : tie.Need-returns-2
-returns-2 c mounting =
+returns-2 c fitting =
     let fresh = c .before .before in
     let d = advanced-of fresh in
-    emptied-made _ mounting (fresh .freshen .ensures)
-    ∙ ap (λ clock. emptied clock mounting) (d .advanced .ensures)
-    ∙ sym (moved-further (book (entry d) mounting) (entry d .args .log .now) _ (λ e. fresh .before .before .before .before .before .before .if1 .left (after d mounting ∙ e ∙ sym (before d mounting))) (λ e. c .before .if2 .taken (after d mounting ∙ e ∙ sym (ap (λ q. q + 1) (before d mounting)))))
+    emptied-made _ fitting (fresh .freshen .ensures)
+    ∙ ap (λ clock. emptied clock fitting) (d .advanced .ensures)
+    ∙ sym (moved-further (book (entry d) fitting) (entry d .args .log .now) _ (λ e. fresh .before .before .before .before .before .before .if1 .left (after d fitting ∙ e ∙ sym (before d fitting))) (λ e. c .before .if2 .taken (after d fitting ∙ e ∙ sym (ap (λ q. q + 1) (before d fitting)))))
 
 unite-chunk-requires : tie.Need-unite-chunk-requires
 unite-chunk-requires c κs = search needs
@@ -85,17 +87,17 @@ clear-half-requires : tie.Need-clear-half-requires
 clear-half-requires c κs = search needs
 
 returns-3 : tie.Need-returns-3
-returns-3 c mounting =
+returns-3 c fitting =
     let united = c .before .before in
     let fresh = united .before .before .before .before .before .before in
     let d = advanced-of fresh in
-    let b = book (entry d) mounting in
+    let b = book (entry d) fitting in
     let f = fresh .freshen .ensures in
     turned-made b (entry d .args .log .now) (d .advanced .result) (f .forward-parents) (f .forward-sizes)
-    (united .unite-chunk .ensures ∙ backward-built b (entry d .args .log .now) (before d mounting) (f .backward-parents) (f .backward-sizes) (f .backward-labels))
-    (c .clear-half .ensures ∙ ap (λ half. cleared half (b .counts)) (other-half (before d mounting)))
+    (united .unite-chunk .ensures ∙ backward-built b (entry d .args .log .now) (before d fitting) (f .backward-parents) (f .backward-sizes) (f .backward-labels))
+    (c .clear-half .ensures ∙ ap (λ half. cleared half (b .counts)) (other-half (before d fitting)))
     ∙ ap (turned b (entry d .args .log .now)) (d .advanced .ensures)
-    ∙ sym (moved-next _ _ _ (sym (after d mounting) ∙ united .before .before .before .before .before .if2 .left ∙ ap (λ q. q + 1) (before d mounting)))
+    ∙ sym (moved-next _ _ _ (sym (after d fitting) ∙ united .before .before .before .before .before .if2 .left ∙ ap (λ q. q + 1) (before d fitting)))
 
 pub move-to-spec : {M : Type 1} → statement M
 move-to-spec =

@@ -34,7 +34,7 @@ use denote.Lend.{lends-ref, ref-back, lends-shr}
 use denote.Signature.{plain}
 use denote.Steps.{only, opens, closes, looks, shuts, owned, peeks, heard, nothing}
 use denote.Struct.Laws as LL
-use denote.Struct.Field.{u8-field}
+use denote.Struct.Field.{}
 use denote.Triple.Statement.{Contract, Triple}
 use denote.Triple.Call.{calls-at}
 use denote.Triple.Clauses.{ensured, lasts}
@@ -47,13 +47,16 @@ use borrow.Table.OneValue.{part-in}
 use Rattle.book.specs.Calls.{GivesFields, linkOf}
 use Rattle.book_state.specs.declared.Book.{Book}
 use Rattle.slides.specs.declared.Clock.{Clock}
+use Rattle.cells.specs.declared.Fitting.{Fitting}
 use Rattle.book.specs.declared.fields.FieldsAnswer.{FieldsAnswer}
 use Rattle.book_state.proofs.Book as T
 use Rattle.book_state.proofs.Book.Laws as T′
 use Rattle.slides.proofs.Clock as T1
 use Rattle.slides.proofs.Clock.Laws as T1′
-use Rattle.book.proofs.fields.FieldsAnswer as T2
-use Rattle.book.proofs.fields.FieldsAnswer.Laws as T2′
+use Rattle.cells.proofs.Fitting as T2
+use Rattle.cells.proofs.Fitting.Laws as T2′
+use Rattle.book.proofs.fields.FieldsAnswer as T3
+use Rattle.book.proofs.fields.FieldsAnswer.Laws as T3′
 use Rattle.kerb.proofs.Apart.{Ones, parts, Way, apart, together, packs, unpacks, field-out}
 use Rattle.book.proofs.fields.link as g
 use Rattle.book.proofs.fields.link.Symbol as g-def
@@ -73,7 +76,7 @@ same (x ∷ xs) = ap (λ (ys : List ℕ). x ∷ ys) (same xs)
 
 -- the struct after the call, by the callee's answer and the last values of the fields that were lent
 abbrev after : Book → FieldsAnswer → List ℕ → List ℕ → List ℕ → List ℕ → List ℕ → List ℕ → Book
-after h r z-counts z-forward-parent z-forward-size z-backward-parent z-backward-size z-backward-label = record { «forward_parent» = z-forward-parent; «forward_size» = z-forward-size; «backward_parent» = z-backward-parent; «backward_size» = z-backward-size; counts = z-counts; clock = r .clock; «backward_label» = z-backward-label; mounting = r .mounting }
+after h r z-counts z-forward-parent z-forward-size z-backward-parent z-backward-size z-backward-label = record { «forward_parent» = z-forward-parent; «forward_size» = z-forward-size; «backward_parent» = z-backward-parent; «backward_size» = z-backward-size; counts = z-counts; clock = r .clock; «backward_label» = z-backward-label; fitting = r .fitting }
 
 ones : Ones (T.the-type .parts)
 ones = (refl, (refl, (refl, (refl, (refl, (refl, (refl, (refl, tt))))))))
@@ -142,15 +145,15 @@ module _ {M : Type 1} (𝓤 : URA M) (H : Heap 𝓤) (A : Atoms 𝓤) (W : Given
   abbrev held-backward-label : ℕ → GName → Fml
   held-backward-label ν δ = MutRef (named 5) (ν ∷ []) (Array u8 tt 1024) .own (loan-backward-label δ) (vptr b (o + 8272) ∷ [])
 
-  abbrev args : GName → GName → GName → GName → GName → GName → Clock × (ℕ × (RefT (List ℕ) × (RefT (List ℕ) × (RefT (List ℕ) × (RefT (List ℕ) × (RefT (List ℕ) × (RefT (List ℕ) × (RefT (List ℕ) × (ℕ × (ℕ × (ℕ × Unit {0})))))))))))
-  args δ-counts δ-forward-parent δ-forward-size δ-backward-parent δ-backward-size δ-backward-label = (h .clock, (h .mounting, (loan-counts δ-counts, (loan-forward-parent δ-forward-parent, (loan-forward-size δ-forward-size, (loan-backward-parent δ-backward-parent, (loan-backward-size δ-backward-size, (loan-backward-label δ-backward-label, (ref-log, (tick, (one, (other, tt))))))))))))
+  abbrev args : GName → GName → GName → GName → GName → GName → Clock × (Fitting × (RefT (List ℕ) × (RefT (List ℕ) × (RefT (List ℕ) × (RefT (List ℕ) × (RefT (List ℕ) × (RefT (List ℕ) × (RefT (List ℕ) × (ℕ × (ℕ × (ℕ × Unit {0})))))))))))
+  args δ-counts δ-forward-parent δ-forward-size δ-backward-parent δ-backward-size δ-backward-label = (h .clock, (h .fitting, (loan-counts δ-counts, (loan-forward-parent δ-forward-parent, (loan-forward-size δ-forward-size, (loan-backward-parent δ-backward-parent, (loan-backward-size δ-backward-size, (loan-backward-label δ-backward-label, (ref-log, (tick, (one, (other, tt))))))))))))
 
   abbrev to-callee : ℕ → ℕ → ℕ → ℕ → ℕ → ℕ → GName → GName → GName → GName → GName → GName → Callee 𝓤 H A at-mem run .Ghost
-  to-callee ν0 ν1 ν2 ν3 ν4 ν5 δ-counts δ-forward-parent δ-forward-size δ-backward-parent δ-backward-size δ-backward-label = ((((ν0 ∷ []), ((ν1 ∷ []), ((ν2 ∷ []), ((ν3 ∷ []), ((ν4 ∷ []), ((ν5 ∷ []), (κ-log, tt))))))), (fullShare, (fullShare, (fullShare, (fullShare, (fullShare, (fullShare, (q-log, tt))))))), tt, args δ-counts δ-forward-parent δ-forward-size δ-backward-parent δ-backward-size δ-backward-label, ((LL.val T1.the-type T1′.the-laws (h .clock)) ∷ [], ((vint w8 (h .mounting)) ∷ [], (vptr b (o + 8192) ∷ [], (vptr b (o + 0) ∷ [], (vptr b (o + 2048) ∷ [], (vptr b (o + 4096) ∷ [], (vptr b (o + 6144) ∷ [], (vptr b (o + 8272) ∷ [], (sliceVal (b-log, o-log) (length l-log) ∷ [], ((vint w32 tick) ∷ [], ((vint w16 one) ∷ [], ((vint w16 other) ∷ [], tt))))))))))))), tt)
+  to-callee ν0 ν1 ν2 ν3 ν4 ν5 δ-counts δ-forward-parent δ-forward-size δ-backward-parent δ-backward-size δ-backward-label = ((((ν0 ∷ []), ((ν1 ∷ []), ((ν2 ∷ []), ((ν3 ∷ []), ((ν4 ∷ []), ((ν5 ∷ []), (κ-log, tt))))))), (fullShare, (fullShare, (fullShare, (fullShare, (fullShare, (fullShare, (q-log, tt))))))), tt, args δ-counts δ-forward-parent δ-forward-size δ-backward-parent δ-backward-size δ-backward-label, ((LL.val T1.the-type T1′.the-laws (h .clock)) ∷ [], ((LL.val T2.the-type T2′.the-laws (h .fitting)) ∷ [], (vptr b (o + 8192) ∷ [], (vptr b (o + 0) ∷ [], (vptr b (o + 2048) ∷ [], (vptr b (o + 4096) ∷ [], (vptr b (o + 6144) ∷ [], (vptr b (o + 8272) ∷ [], (sliceVal (b-log, o-log) (length l-log) ∷ [], ((vint w32 tick) ∷ [], ((vint w16 one) ∷ [], ((vint w16 other) ∷ [], tt))))))))))))), tt)
 
-  goes-callee : (is-clock : Is T1.the-row (h .clock) ((LL.val T1.the-type T1′.the-laws (h .clock)) ∷ [])) (is-mounting : Is u8 (h .mounting) ((vint w8 (h .mounting)) ∷ [])) (ν0 ν1 ν2 ν3 ν4 ν5 : ℕ) (δ-counts δ-forward-parent δ-forward-size δ-backward-parent δ-backward-size δ-backward-label : GName) → ent 𝓤 (sep 𝓤 (sem 𝓤 H A (flft (ν0 ∷ []) fullShare)) (sep 𝓤 (sem 𝓤 H A (flft (ν1 ∷ []) fullShare)) (sep 𝓤 (sem 𝓤 H A (flft (ν2 ∷ []) fullShare)) (sep 𝓤 (sem 𝓤 H A (flft (ν3 ∷ []) fullShare)) (sep 𝓤 (sem 𝓤 H A (flft (ν4 ∷ []) fullShare)) (sep 𝓤 (sem 𝓤 H A (flft (ν5 ∷ []) fullShare)) (sep 𝓤 (sem 𝓤 H A (flft κ-log q-log)) (sep 𝓤 (sem 𝓤 H A (held-counts ν0 δ-counts)) (sep 𝓤 (sem 𝓤 H A (held-forward-parent ν1 δ-forward-parent)) (sep 𝓤 (sem 𝓤 H A (held-forward-size ν2 δ-forward-size)) (sep 𝓤 (sem 𝓤 H A (held-backward-parent ν3 δ-backward-parent)) (sep 𝓤 (sem 𝓤 H A (held-backward-size ν4 δ-backward-size)) (sep 𝓤 (sem 𝓤 H A (held-backward-label ν5 δ-backward-label)) (sem 𝓤 H A (MutSlice (named 0) κ-log u16 .own ref-log (sliceVal (b-log, o-log) (length l-log) ∷ [])))))))))))))))) (Callee 𝓤 H A at-mem run .pre (to-callee ν0 ν1 ν2 ν3 ν4 ν5 δ-counts δ-forward-parent δ-forward-size δ-backward-parent δ-backward-size δ-backward-label))
-  goes-callee is-clock is-mounting ν0 ν1 ν2 ν3 ν4 ν5 δ-counts δ-forward-parent δ-forward-size δ-backward-parent δ-backward-size δ-backward-label =
-      qed W (‵ (flft (ν0 ∷ []) fullShare) ∷ ‵ (flft (ν1 ∷ []) fullShare) ∷ ‵ (flft (ν2 ∷ []) fullShare) ∷ ‵ (flft (ν3 ∷ []) fullShare) ∷ ‵ (flft (ν4 ∷ []) fullShare) ∷ ‵ (flft (ν5 ∷ []) fullShare) ∷ ‵ (flft κ-log q-log) ∷ ‵ (held-counts ν0 δ-counts) ∷ ‵ (held-forward-parent ν1 δ-forward-parent) ∷ ‵ (held-forward-size ν2 δ-forward-size) ∷ ‵ (held-backward-parent ν3 δ-backward-parent) ∷ ‵ (held-backward-size ν4 δ-backward-size) ∷ ‵ (held-backward-label ν5 δ-backward-label) ∷ ‵ (MutSlice (named 0) κ-log u16 .own ref-log (sliceVal (b-log, o-log) (length l-log) ∷ [])) ∷ []) ∵ nothing ! $ owned ! u16 (Is u16) (uint-makes 𝓤 H A W w16) other _ ok-other $ fjoin ! $ owned ! u16 (Is u16) (uint-makes 𝓤 H A W w16) one _ ok-one $ fjoin ! $ owned ! u32 (Is u32) (uint-makes 𝓤 H A W w32) tick _ ok-tick $ fjoin ! $ move ! (14 ∷ 0 ∷ []) $ fjoin ! $ move ! (13 ∷ 0 ∷ []) $ fjoin ! $ move ! (12 ∷ 0 ∷ []) $ fjoin ! $ move ! (11 ∷ 0 ∷ []) $ fjoin ! $ move ! (10 ∷ 0 ∷ []) $ fjoin ! $ move ! (9 ∷ 0 ∷ []) $ fjoin ! $ move ! (8 ∷ 0 ∷ []) $ fjoin ! $ owned ! u8 (Is u8) (uint-makes 𝓤 H A W w8) (h .mounting) _ is-mounting $ fjoin ! $ owned ! T1.the-row (Is T1.the-row) ((LL.makes T1.the-type T1′.the-plain) 𝓤 H A) (h .clock) _ is-clock $ fjoin ! $ nothing ! $ move ! (8 ∷ 0 ∷ []) $ join ! $ move ! (7 ∷ 0 ∷ []) $ join ! $ move ! (6 ∷ 0 ∷ []) $ join ! $ move ! (5 ∷ 0 ∷ []) $ join ! $ move ! (4 ∷ 0 ∷ []) $ join ! $ move ! (3 ∷ 0 ∷ []) $ join ! $ move ! (2 ∷ 0 ∷ []) $ join ! $ join ! $ frame ! $ done !
+  goes-callee : (is-clock : Is T1.the-row (h .clock) ((LL.val T1.the-type T1′.the-laws (h .clock)) ∷ [])) (is-fitting : Is T2.the-row (h .fitting) ((LL.val T2.the-type T2′.the-laws (h .fitting)) ∷ [])) (ν0 ν1 ν2 ν3 ν4 ν5 : ℕ) (δ-counts δ-forward-parent δ-forward-size δ-backward-parent δ-backward-size δ-backward-label : GName) → ent 𝓤 (sep 𝓤 (sem 𝓤 H A (flft (ν0 ∷ []) fullShare)) (sep 𝓤 (sem 𝓤 H A (flft (ν1 ∷ []) fullShare)) (sep 𝓤 (sem 𝓤 H A (flft (ν2 ∷ []) fullShare)) (sep 𝓤 (sem 𝓤 H A (flft (ν3 ∷ []) fullShare)) (sep 𝓤 (sem 𝓤 H A (flft (ν4 ∷ []) fullShare)) (sep 𝓤 (sem 𝓤 H A (flft (ν5 ∷ []) fullShare)) (sep 𝓤 (sem 𝓤 H A (flft κ-log q-log)) (sep 𝓤 (sem 𝓤 H A (held-counts ν0 δ-counts)) (sep 𝓤 (sem 𝓤 H A (held-forward-parent ν1 δ-forward-parent)) (sep 𝓤 (sem 𝓤 H A (held-forward-size ν2 δ-forward-size)) (sep 𝓤 (sem 𝓤 H A (held-backward-parent ν3 δ-backward-parent)) (sep 𝓤 (sem 𝓤 H A (held-backward-size ν4 δ-backward-size)) (sep 𝓤 (sem 𝓤 H A (held-backward-label ν5 δ-backward-label)) (sem 𝓤 H A (MutSlice (named 0) κ-log u16 .own ref-log (sliceVal (b-log, o-log) (length l-log) ∷ [])))))))))))))))) (Callee 𝓤 H A at-mem run .pre (to-callee ν0 ν1 ν2 ν3 ν4 ν5 δ-counts δ-forward-parent δ-forward-size δ-backward-parent δ-backward-size δ-backward-label))
+  goes-callee is-clock is-fitting ν0 ν1 ν2 ν3 ν4 ν5 δ-counts δ-forward-parent δ-forward-size δ-backward-parent δ-backward-size δ-backward-label =
+      qed W (‵ (flft (ν0 ∷ []) fullShare) ∷ ‵ (flft (ν1 ∷ []) fullShare) ∷ ‵ (flft (ν2 ∷ []) fullShare) ∷ ‵ (flft (ν3 ∷ []) fullShare) ∷ ‵ (flft (ν4 ∷ []) fullShare) ∷ ‵ (flft (ν5 ∷ []) fullShare) ∷ ‵ (flft κ-log q-log) ∷ ‵ (held-counts ν0 δ-counts) ∷ ‵ (held-forward-parent ν1 δ-forward-parent) ∷ ‵ (held-forward-size ν2 δ-forward-size) ∷ ‵ (held-backward-parent ν3 δ-backward-parent) ∷ ‵ (held-backward-size ν4 δ-backward-size) ∷ ‵ (held-backward-label ν5 δ-backward-label) ∷ ‵ (MutSlice (named 0) κ-log u16 .own ref-log (sliceVal (b-log, o-log) (length l-log) ∷ [])) ∷ []) ∵ nothing ! $ owned ! u16 (Is u16) (uint-makes 𝓤 H A W w16) other _ ok-other $ fjoin ! $ owned ! u16 (Is u16) (uint-makes 𝓤 H A W w16) one _ ok-one $ fjoin ! $ owned ! u32 (Is u32) (uint-makes 𝓤 H A W w32) tick _ ok-tick $ fjoin ! $ move ! (14 ∷ 0 ∷ []) $ fjoin ! $ move ! (13 ∷ 0 ∷ []) $ fjoin ! $ move ! (12 ∷ 0 ∷ []) $ fjoin ! $ move ! (11 ∷ 0 ∷ []) $ fjoin ! $ move ! (10 ∷ 0 ∷ []) $ fjoin ! $ move ! (9 ∷ 0 ∷ []) $ fjoin ! $ move ! (8 ∷ 0 ∷ []) $ fjoin ! $ owned ! T2.the-row (Is T2.the-row) ((LL.makes T2.the-type T2′.the-plain) 𝓤 H A) (h .fitting) _ is-fitting $ fjoin ! $ owned ! T1.the-row (Is T1.the-row) ((LL.makes T1.the-type T1′.the-plain) 𝓤 H A) (h .clock) _ is-clock $ fjoin ! $ nothing ! $ move ! (8 ∷ 0 ∷ []) $ join ! $ move ! (7 ∷ 0 ∷ []) $ join ! $ move ! (6 ∷ 0 ∷ []) $ join ! $ move ! (5 ∷ 0 ∷ []) $ join ! $ move ! (4 ∷ 0 ∷ []) $ join ! $ move ! (3 ∷ 0 ∷ []) $ join ! $ move ! (2 ∷ 0 ∷ []) $ join ! $ join ! $ frame ! $ done !
 
   module _ (C : Calls 𝓤 H) (Λ : Loops 𝓤 H) (fm : FmC 𝓤 H (W .laws) C) (known : Triple 𝓤 (C #book·fields·link) (Callee 𝓤 H A at-mem run)) where
     walk : ent 𝓤 (onEntry 𝓤 H A f.signature (κ, (κ-log, tt)) (q, (q-log, tt)) x at) (WpFn 𝓤 H C Λ code.function (vptr b o ∷ sliceVal (b-log, o-log) (length l-log) ∷ (vint w32 tick) ∷ (vint w16 one) ∷ (vint w16 other) ∷ []) Post)
@@ -164,9 +167,9 @@ module _ {M : Type 1} (𝓤 : URA M) (H : Heap 𝓤) (A : Atoms 𝓤) (W : Given
         use1 W (‵ (parts fullShare (T.the-type .parts) 0 b o (T.struct .as-values h)) ⊛ raw (Way 𝓤 H A W fullShare T.the-type T′.the-laws ones b o)) (apart 𝓤 H A W fullShare T.the-type T′.the-laws ones b o h (T.struct .as-values h) refl) $ split ! $
         fsplit ! $ move ! (1 ∷ []) $ fsplit ! $ move ! (1 ∷ []) $ fsplit ! $ move ! (1 ∷ []) $ fsplit ! $ move ! (1 ∷ []) $ fsplit ! $ move ! (1 ∷ []) $ fsplit ! $ move ! (1 ∷ []) $ fsplit ! $ move ! (1 ∷ []) $ fsplit ! $ rewrite ! 4 (λ (xs : List ℕ). ‵ (partAt (Array u16 tt 32) fullShare xs b (o + 8192))) (same (h .counts)) refl $ rewrite ! 8 (λ (xs : List ℕ). ‵ (partAt (Array u16 tt 1024) fullShare xs b (o + 0))) (same (h .«forward_parent»)) refl $ rewrite ! 7 (λ (xs : List ℕ). ‵ (partAt (Array u16 tt 1024) fullShare xs b (o + 2048))) (same (h .«forward_size»)) refl $ rewrite ! 6 (λ (xs : List ℕ). ‵ (partAt (Array u16 tt 1024) fullShare xs b (o + 4096))) (same (h .«backward_parent»)) refl $ rewrite ! 5 (λ (xs : List ℕ). ‵ (partAt (Array u16 tt 1024) fullShare xs b (o + 6144))) (same (h .«backward_size»)) refl $ rewrite ! 2 (λ (xs : List ℕ). ‵ (partAt (Array u8 tt 1024) fullShare xs b (o + 8272))) (same (h .«backward_label»)) refl $
         move ! (3 ∷ []) $ use1 W (‵ (fat fullShare T1′.mir b (o + 8256) (LL.val T1.the-type T1′.the-laws (h .clock))) ⊛ ‵ (T1.the-row .own (h .clock) ((LL.val T1.the-type T1′.the-laws (h .clock)) ∷ []))) (field-out 𝓤 H A W fullShare T1.the-field T1′.the-field-laws refl (T1.the-field .into (h .clock)) b (o + 8256)) $ split ! $ move ! (1 ∷ []) $ peeks ! T1.the-row (Is T1.the-row) (shows 𝓤 H A T1.the-row) (h .clock) ((LL.val T1.the-type T1′.the-laws (h .clock)) ∷ []) (λ is-clock.
-        move ! (2 ∷ []) $ use1 W (‵ (fat fullShare (tyInt w8) b (o + 9296) (vint w8 (h .mounting))) ⊛ ‵ (u8 .own (h .mounting) ((vint w8 (h .mounting)) ∷ []))) (field-out 𝓤 H A W fullShare u8-field LL.u8-laws refl (u8-field .into (h .mounting)) b (o + 9296)) $ split ! $ move ! (1 ∷ []) $ peeks ! u8 (Is u8) (shows 𝓤 H A u8) (h .mounting) ((vint w8 (h .mounting)) ∷ []) (λ is-mounting.
+        move ! (2 ∷ []) $ use1 W (‵ (fat fullShare T2′.mir b (o + 9296) (LL.val T2.the-type T2′.the-laws (h .fitting))) ⊛ ‵ (T2.the-row .own (h .fitting) ((LL.val T2.the-type T2′.the-laws (h .fitting)) ∷ []))) (field-out 𝓤 H A W fullShare T2.the-field T2′.the-field-laws refl (T2.the-field .into (h .fitting)) b (o + 9296)) $ split ! $ move ! (1 ∷ []) $ peeks ! T2.the-row (Is T2.the-row) (shows 𝓤 H A T2.the-row) (h .fitting) ((LL.val T2.the-type T2′.the-laws (h .fitting)) ∷ []) (λ is-fitting.
         assigns ! (of-opd ! (load ! (from ! (hop ! (look ! 45 refl) (fld ! refl (stop !)))) (look ! 3 refl))) (from ! (stop !)) (init ! 33 refl (LL.lawful T1.the-type T1′.the-laws 𝓤 H A W .typed (h .clock) _ is-clock .0)) $
-        assigns ! (of-opd ! (load ! (from ! (hop ! (look ! 45 refl) (fld ! refl (stop !)))) (look ! 1 refl))) (from ! (stop !)) (init ! 31 refl (uint-lawful 𝓤 H A W w8 .typed (h .mounting) _ is-mounting .0)) $
+        assigns ! (of-opd ! (load ! (from ! (hop ! (look ! 45 refl) (fld ! refl (stop !)))) (look ! 1 refl))) (from ! (stop !)) (init ! 31 refl (LL.lawful T2.the-type T2′.the-laws 𝓤 H A W .typed (h .fitting) _ is-fitting .0)) $
         assigns ! (addr ! (from ! (hop ! (look ! 45 refl) (fld ! refl (stop !))))) (from ! (stop !)) (init ! 29 refl (tt, tt)) $
         assigns ! (addr ! (from ! (hop ! (look ! 45 refl) (fld ! refl (stop !))))) (from ! (stop !)) (init ! 27 refl (tt, tt)) $
         assigns ! (addr ! (from ! (hop ! (look ! 45 refl) (fld ! refl (stop !))))) (from ! (stop !)) (init ! 25 refl (tt, tt)) $
@@ -182,19 +185,19 @@ module _ {M : Type 1} (𝓤 : URA M) (H : Heap 𝓤) (A : Atoms 𝓤) (W : Given
         move ! (19 ∷ []) $ use1 W (later (some (λ (δ : GName). ‵ (held-backward-parent ν3 δ) ⊛ ‵ (flent (ν3 ∷ []) (Body (mem (Array u16 tt 1024)) b (o + 4096) δ))))) (lends-ref 𝓤 H A W (Array u16 tt 1024) (named 3) (ν3 ∷ []) (h .«backward_parent») b (o + 4096)) $ await ! tt $ pick ! (λ δ-backward-parent. split ! $
         move ! (20 ∷ []) $ use1 W (later (some (λ (δ : GName). ‵ (held-backward-size ν4 δ) ⊛ ‵ (flent (ν4 ∷ []) (Body (mem (Array u16 tt 1024)) b (o + 6144) δ))))) (lends-ref 𝓤 H A W (Array u16 tt 1024) (named 4) (ν4 ∷ []) (h .«backward_size») b (o + 6144)) $ await ! tt $ pick ! (λ δ-backward-size. split ! $
         move ! (21 ∷ []) $ use1 W (later (some (λ (δ : GName). ‵ (held-backward-label ν5 δ) ⊛ ‵ (flent (ν5 ∷ []) (Body (mem (Array u8 tt 1024)) b (o + 8272) δ))))) (lends-ref 𝓤 H A W (Array u8 tt 1024) (named 5) (ν5 ∷ []) (h .«backward_label») b (o + 8272)) $ await ! tt $ pick ! (λ δ-backward-label. split ! $
-        move ! (0 ∷ 61 ∷ []) $ join ! $ move ! (2 ∷ 0 ∷ []) $ join ! $ move ! (3 ∷ 0 ∷ []) $ join ! $ move ! (4 ∷ 0 ∷ []) $ join ! $ move ! (5 ∷ 0 ∷ []) $ join ! $ move ! (6 ∷ 0 ∷ []) $ join ! $ move ! (57 ∷ 0 ∷ []) $ join ! $ move ! (7 ∷ 0 ∷ []) $ join ! $ move ! (7 ∷ 0 ∷ []) $ join ! $ move ! (7 ∷ 0 ∷ []) $ join ! $ move ! (7 ∷ 0 ∷ []) $ join ! $ move ! (7 ∷ 0 ∷ []) $ join ! $ move ! (7 ∷ 0 ∷ []) $ join ! $ use1 W (raw (Callee 𝓤 H A at-mem run .pre (to-callee ν0 ν1 ν2 ν3 ν4 ν5 δ-counts δ-forward-parent δ-forward-size δ-backward-parent δ-backward-size δ-backward-label))) (goes-callee is-clock is-mounting ν0 ν1 ν2 ν3 ν4 ν5 δ-counts δ-forward-parent δ-forward-size δ-backward-parent δ-backward-size δ-backward-label) $
+        move ! (0 ∷ 61 ∷ []) $ join ! $ move ! (2 ∷ 0 ∷ []) $ join ! $ move ! (3 ∷ 0 ∷ []) $ join ! $ move ! (4 ∷ 0 ∷ []) $ join ! $ move ! (5 ∷ 0 ∷ []) $ join ! $ move ! (6 ∷ 0 ∷ []) $ join ! $ move ! (57 ∷ 0 ∷ []) $ join ! $ move ! (7 ∷ 0 ∷ []) $ join ! $ move ! (7 ∷ 0 ∷ []) $ join ! $ move ! (7 ∷ 0 ∷ []) $ join ! $ move ! (7 ∷ 0 ∷ []) $ join ! $ move ! (7 ∷ 0 ∷ []) $ join ! $ move ! (7 ∷ 0 ∷ []) $ join ! $ use1 W (raw (Callee 𝓤 H A at-mem run .pre (to-callee ν0 ν1 ν2 ν3 ν4 ν5 δ-counts δ-forward-parent δ-forward-size δ-backward-parent δ-backward-size δ-backward-label))) (goes-callee is-clock is-fitting ν0 ν1 ν2 ν3 ν4 ν5 δ-counts δ-forward-parent δ-forward-size δ-backward-parent δ-backward-size δ-backward-label) $
         calls-at ! fm (Callee 𝓤 H A at-mem run) known (to-callee ν0 ν1 ν2 ν3 ν4 ν5 δ-counts δ-forward-parent δ-forward-size δ-backward-parent δ-backward-size δ-backward-label)
         (and-then ! (load ! (from ! (stop !)) (look ! 34 refl)) (and-then ! (load ! (from ! (stop !)) (look ! 32 refl)) (and-then ! (load ! (from ! (stop !)) (look ! 30 refl)) (and-then ! (load ! (from ! (stop !)) (look ! 28 refl)) (and-then ! (load ! (from ! (stop !)) (look ! 26 refl)) (and-then ! (load ! (from ! (stop !)) (look ! 24 refl)) (and-then ! (load ! (from ! (stop !)) (look ! 22 refl)) (and-then ! (load ! (from ! (stop !)) (look ! 20 refl)) (and-then ! (load ! (from ! (stop !)) (look ! 16 refl)) (and-then ! (load ! (from ! (stop !)) (look ! 42 refl)) (and-then ! (load ! (from ! (stop !)) (look ! 40 refl)) (and-then ! (load ! (from ! (stop !)) (look ! 38 refl)) (no-more !))))))))))))) (λ w.
-        use1 W (later (some (λ (r : FieldsAnswer). ((‵ (flft (ν0 ∷ []) fullShare) ⊛ (‵ (flft (ν1 ∷ []) fullShare) ⊛ (‵ (flft (ν2 ∷ []) fullShare) ⊛ (‵ (flft (ν3 ∷ []) fullShare) ⊛ (‵ (flft (ν4 ∷ []) fullShare) ⊛ (‵ (flft (ν5 ∷ []) fullShare) ⊛ (‵ (flft κ-log q-log) ⊛ ‵ ftrue))))))) ⊛ ‵ (T2.the-row .own r (w ∷ []))) ⊛ raw (ensured 𝓤 H A g.ended (g.clauses 𝓤 H A at-mem run) ((ν0 ∷ []), ((ν1 ∷ []), ((ν2 ∷ []), ((ν3 ∷ []), ((ν4 ∷ []), ((ν5 ∷ []), (κ-log, tt))))))) (args δ-counts δ-forward-parent δ-forward-size δ-backward-parent δ-backward-size δ-backward-label) tt r)))) (id⊢ 𝓤 _) $ await ! tt $ pick ! (λ r.
+        use1 W (later (some (λ (r : FieldsAnswer). ((‵ (flft (ν0 ∷ []) fullShare) ⊛ (‵ (flft (ν1 ∷ []) fullShare) ⊛ (‵ (flft (ν2 ∷ []) fullShare) ⊛ (‵ (flft (ν3 ∷ []) fullShare) ⊛ (‵ (flft (ν4 ∷ []) fullShare) ⊛ (‵ (flft (ν5 ∷ []) fullShare) ⊛ (‵ (flft κ-log q-log) ⊛ ‵ ftrue))))))) ⊛ ‵ (T3.the-row .own r (w ∷ []))) ⊛ raw (ensured 𝓤 H A g.ended (g.clauses 𝓤 H A at-mem run) ((ν0 ∷ []), ((ν1 ∷ []), ((ν2 ∷ []), ((ν3 ∷ []), ((ν4 ∷ []), ((ν5 ∷ []), (κ-log, tt))))))) (args δ-counts δ-forward-parent δ-forward-size δ-backward-parent δ-backward-size δ-backward-label) tt r)))) (id⊢ 𝓤 _) $ await ! tt $ pick ! (λ r.
         split ! $ move ! (1 ∷ []) $ use1 W (some (λ (zs : Unit {0} × (Unit {0} × (List ℕ × (List ℕ × (List ℕ × (List ℕ × (List ℕ × (List ℕ × (List ℕ × (Unit {0} × (Unit {0} × (Unit {0} × Unit {0})))))))))))). ‵ (lasts g.ended ((ν0 ∷ []), ((ν1 ∷ []), ((ν2 ∷ []), ((ν3 ∷ []), ((ν4 ∷ []), ((ν5 ∷ []), (κ-log, tt))))))) (args δ-counts δ-forward-parent δ-forward-size δ-backward-parent δ-backward-size δ-backward-label) zs) ⊛ raw (fact 𝓤 (Ensured r (zs .1 .1 .0) (zs .1 .1 .1 .0) (zs .1 .1 .1 .1 .0) (zs .1 .1 .1 .1 .1 .0) (zs .1 .1 .1 .1 .1 .1 .0) (zs .1 .1 .1 .1 .1 .1 .1 .0) (zs .1 .1 .1 .1 .1 .1 .1 .1 .0))))) (id⊢ 𝓤 _) $ pick ! (λ zs. split ! $ move ! (1 ∷ []) $ heard ! (Ensured r (zs .1 .1 .0) (zs .1 .1 .1 .0) (zs .1 .1 .1 .1 .0) (zs .1 .1 .1 .1 .1 .0) (zs .1 .1 .1 .1 .1 .1 .0) (zs .1 .1 .1 .1 .1 .1 .1 .0) (zs .1 .1 .1 .1 .1 .1 .1 .1 .0)) (λ e.
-        fsplit ! $ move ! (1 ∷ []) $ fsplit ! $ move ! (1 ∷ []) $ fsplit ! $ move ! (1 ∷ []) $ fsplit ! $ move ! (1 ∷ []) $ fsplit ! $ move ! (1 ∷ []) $ fsplit ! $ move ! (1 ∷ []) $ fsplit ! $ move ! (1 ∷ []) $ fsplit ! $ move ! (1 ∷ []) $ fsplit ! $ fsplit ! $ move ! (1 ∷ []) $ feqL ! (λ len-log. move ! (10 ∷ []) $ split ! $ move ! (1 ∷ []) $ peeks ! T2.the-row (Is T2.the-row) (shows 𝓤 H A T2.the-row) r (w ∷ []) (λ is. land ! (from ! (stop !)) (init ! 47 refl (LL.lawful T2.the-type T2′.the-laws 𝓤 H A W .typed (r) _ is .0)) $
+        fsplit ! $ move ! (1 ∷ []) $ fsplit ! $ move ! (1 ∷ []) $ fsplit ! $ move ! (1 ∷ []) $ fsplit ! $ move ! (1 ∷ []) $ fsplit ! $ move ! (1 ∷ []) $ fsplit ! $ move ! (1 ∷ []) $ fsplit ! $ move ! (1 ∷ []) $ fsplit ! $ move ! (1 ∷ []) $ fsplit ! $ fsplit ! $ move ! (1 ∷ []) $ feqL ! (λ len-log. move ! (10 ∷ []) $ split ! $ move ! (1 ∷ []) $ peeks ! T3.the-row (Is T3.the-row) (shows 𝓤 H A T3.the-row) r (w ∷ []) (λ is. land ! (from ! (stop !)) (init ! 47 refl (LL.lawful T3.the-type T3′.the-laws 𝓤 H A W .typed (r) _ is .0)) $
         -- the answer's fields are stored
-        rewrite ! 47 (λ (u : Val). ‵ (fat fullShare T2′.mir l6 0 u)) (ap only (LL.tells T2.the-type T2′.the-laws (r) (w ∷ []) is)) refl $
-        assigns ! (of-opd ! (load ! (from ! (fld ! refl (stop !))) (look-in ! 47 (sub ! 0 refl (whole !))))) (from ! (hop ! (look ! 57 refl) (fld ! refl (stop !)))) (store ! 21 refl (LL.lawful T1.the-type T1′.the-laws 𝓤 H A W .typed (r .clock) _ (LL.owed T2.the-type T2′.the-laws r (w ∷ []) is .0) .0)) $
-        assigns ! (of-opd ! (load ! (from ! (fld ! refl (stop !))) (look-in ! 47 (sub ! 1 refl (whole !))))) (from ! (hop ! (look ! 57 refl) (fld ! refl (stop !)))) (store ! 19 refl (uint-lawful 𝓤 H A W w8 .typed (r .mounting) _ (LL.owed T2.the-type T2′.the-laws r (w ∷ []) is .1 .0) .0)) $
-        assigns ! (of-opd ! (load ! (from ! (fld ! refl (stop !))) (look-in ! 47 (sub ! 2 refl (whole !))))) (from ! (stop !)) (init ! 59 refl (uint-lawful 𝓤 H A W w8 .typed (r .number) _ (LL.owed T2.the-type T2′.the-laws r (w ∷ []) is .1 .1 .0) .0)) $
-        owned ! T1.the-row (Is T1.the-row) ((LL.makes T1.the-type T1′.the-plain) 𝓤 H A) (r .clock) _ (LL.owed T2.the-type T2′.the-laws r (w ∷ []) is .0) $ move ! (22 ∷ 0 ∷ []) $ use2 W (‵ (partAt (T1.the-field .row) fullShare (T1.the-field .into (r .clock)) b (o + 8256))) (part-in 𝓤 H A W (T1.the-field .row) refl fullShare (T1.the-field .into (r .clock)) b (o + 8256) (LL.val T1.the-type T1′.the-laws (r .clock))) $
-        owned ! u8 (Is u8) (uint-makes 𝓤 H A W w8) (r .mounting) _ (LL.owed T2.the-type T2′.the-laws r (w ∷ []) is .1 .0) $ move ! (21 ∷ 0 ∷ []) $ use2 W (‵ (partAt (u8-field .row) fullShare (u8-field .into (r .mounting)) b (o + 9296))) (part-in 𝓤 H A W (u8-field .row) refl fullShare (u8-field .into (r .mounting)) b (o + 9296) (vint w8 (r .mounting))) $
+        rewrite ! 47 (λ (u : Val). ‵ (fat fullShare T3′.mir l6 0 u)) (ap only (LL.tells T3.the-type T3′.the-laws (r) (w ∷ []) is)) refl $
+        assigns ! (of-opd ! (load ! (from ! (fld ! refl (stop !))) (look-in ! 47 (sub ! 0 refl (whole !))))) (from ! (hop ! (look ! 57 refl) (fld ! refl (stop !)))) (store ! 21 refl (LL.lawful T1.the-type T1′.the-laws 𝓤 H A W .typed (r .clock) _ (LL.owed T3.the-type T3′.the-laws r (w ∷ []) is .0) .0)) $
+        assigns ! (of-opd ! (load ! (from ! (fld ! refl (stop !))) (look-in ! 47 (sub ! 1 refl (whole !))))) (from ! (hop ! (look ! 57 refl) (fld ! refl (stop !)))) (store ! 19 refl (LL.lawful T2.the-type T2′.the-laws 𝓤 H A W .typed (r .fitting) _ (LL.owed T3.the-type T3′.the-laws r (w ∷ []) is .1 .0) .0)) $
+        assigns ! (of-opd ! (load ! (from ! (fld ! refl (stop !))) (look-in ! 47 (sub ! 2 refl (whole !))))) (from ! (stop !)) (init ! 59 refl (uint-lawful 𝓤 H A W w8 .typed (r .number) _ (LL.owed T3.the-type T3′.the-laws r (w ∷ []) is .1 .1 .0) .0)) $
+        owned ! T1.the-row (Is T1.the-row) ((LL.makes T1.the-type T1′.the-plain) 𝓤 H A) (r .clock) _ (LL.owed T3.the-type T3′.the-laws r (w ∷ []) is .0) $ move ! (22 ∷ 0 ∷ []) $ use2 W (‵ (partAt (T1.the-field .row) fullShare (T1.the-field .into (r .clock)) b (o + 8256))) (part-in 𝓤 H A W (T1.the-field .row) refl fullShare (T1.the-field .into (r .clock)) b (o + 8256) (LL.val T1.the-type T1′.the-laws (r .clock))) $
+        owned ! T2.the-row (Is T2.the-row) ((LL.makes T2.the-type T2′.the-plain) 𝓤 H A) (r .fitting) _ (LL.owed T3.the-type T3′.the-laws r (w ∷ []) is .1 .0) $ move ! (21 ∷ 0 ∷ []) $ use2 W (‵ (partAt (T2.the-field .row) fullShare (T2.the-field .into (r .fitting)) b (o + 9296))) (part-in 𝓤 H A W (T2.the-field .row) refl fullShare (T2.the-field .into (r .fitting)) b (o + 9296) (LL.val T2.the-type T2′.the-laws (r .fitting))) $
         -- the lifetimes are ended, and the fields come back at their last values
         move ! (3 ∷ []) $ split ! $ move ! (1 ∷ []) $ split ! $ move ! (1 ∷ []) $ split ! $ move ! (1 ∷ []) $ split ! $ move ! (1 ∷ []) $ split ! $ move ! (1 ∷ []) $ split ! $ move ! (1 ∷ []) $ split ! $ move ! (7 ∷ []) $ lft-end ! tt $ move ! (7 ∷ []) $ lft-end ! tt $ move ! (7 ∷ []) $ lft-end ! tt $ move ! (7 ∷ []) $ lft-end ! tt $ move ! (7 ∷ []) $ lft-end ! tt $ move ! (7 ∷ []) $ lft-end ! tt $
         move ! (5 ∷ 26 ∷ 18 ∷ []) $ use3 W (later (‵ (partAt (Array u16 tt 32) fullShare (zs .1 .1 .0) b (o + 8192)))) (ref-back 𝓤 H A W (Array u16 tt 32) (ν0 ∷ []) δ-counts (zs .1 .1 .0) b (o + 8192)) $ await ! tt $ rewrite ! 0 (λ (xs : List ℕ). ‵ (partAt (Array u16 tt 32) fullShare xs b (o + 8192))) (sym (same (zs .1 .1 .0))) refl $
@@ -209,7 +212,7 @@ module _ {M : Type 1} (𝓤 : URA M) (H : Heap 𝓤) (A : Atoms 𝓤) (W : Given
         use1 W (‵ (cellAt fullShare (T.the-row .mir) (LL.vals T.the-type T′.the-laws (after h r (zs .1 .1 .0) (zs .1 .1 .1 .0) (zs .1 .1 .1 .1 .0) (zs .1 .1 .1 .1 .1 .0) (zs .1 .1 .1 .1 .1 .1 .0) (zs .1 .1 .1 .1 .1 .1 .1 .0))) b o) ⊛ ‵ (T.the-row .own (after h r (zs .1 .1 .0) (zs .1 .1 .1 .0) (zs .1 .1 .1 .1 .0) (zs .1 .1 .1 .1 .1 .0) (zs .1 .1 .1 .1 .1 .1 .0) (zs .1 .1 .1 .1 .1 .1 .1 .0)) (LL.vals T.the-type T′.the-laws (after h r (zs .1 .1 .0) (zs .1 .1 .1 .0) (zs .1 .1 .1 .1 .0) (zs .1 .1 .1 .1 .1 .0) (zs .1 .1 .1 .1 .1 .1 .0) (zs .1 .1 .1 .1 .1 .1 .1 .0))))) (unpacks 𝓤 H A W fullShare T.the-type T′.the-laws ones b o (after h r (zs .1 .1 .0) (zs .1 .1 .1 .0) (zs .1 .1 .1 .1 .0) (zs .1 .1 .1 .1 .1 .0) (zs .1 .1 .1 .1 .1 .1 .0) (zs .1 .1 .1 .1 .1 .1 .1 .0))) $ split ! $
         move ! (0 ∷ 1 ∷ 11 ∷ 12 ∷ 13 ∷ []) $ closes ! tt T.the-row (after h r (zs .1 .1 .0) (zs .1 .1 .1 .0) (zs .1 .1 .1 .1 .0) (zs .1 .1 .1 .1 .1 .0) (zs .1 .1 .1 .1 .1 .1 .0) (zs .1 .1 .1 .1 .1 .1 .1 .0)) (LL.vals T.the-type T′.the-laws (after h r (zs .1 .1 .0) (zs .1 .1 .1 .0) (zs .1 .1 .1 .1 .0) (zs .1 .1 .1 .1 .1 .0) (zs .1 .1 .1 .1 .1 .1 .0) (zs .1 .1 .1 .1 .1 .1 .1 .0))) b o $
         returns ! (look ! 44 refl) $ forget ! 12 refl $ forget ! 14 refl $ forget ! 16 refl $ forget ! 18 refl $ forget ! 20 refl $ forget ! 22 refl $ forget ! 24 refl $ forget ! 26 refl $ forget ! 28 refl $ forget ! 30 refl $ forget ! 32 refl $ forget ! 34 refl $ forget ! 36 refl $ forget ! 38 refl $ forget ! 40 refl $ forget ! 42 refl $ forget ! 44 refl $
-        move ! (44 ∷ 45 ∷ []) $ free1 ! $ move ! (42 ∷ 43 ∷ []) $ free1 ! $ move ! (40 ∷ 41 ∷ []) $ free1 ! $ move ! (38 ∷ 39 ∷ []) $ free1 ! $ move ! (36 ∷ 37 ∷ []) $ free1 ! $ move ! (34 ∷ 35 ∷ []) $ free1 ! $ move ! (32 ∷ 33 ∷ []) $ free1 ! $ move ! (30 ∷ 31 ∷ []) $ free1 ! $ move ! (28 ∷ 29 ∷ []) $ free1 ! $ move ! (26 ∷ 27 ∷ []) $ free1 ! $ move ! (24 ∷ 25 ∷ []) $ free1 ! $ move ! (22 ∷ 23 ∷ []) $ free1 ! $ move ! (20 ∷ 21 ∷ []) $ free1 ! $ move ! (18 ∷ 19 ∷ []) $ free1 ! $ move ! (16 ∷ 17 ∷ []) $ free1 ! $ move ! (14 ∷ 15 ∷ []) $ free1 ! $ move ! (12 ∷ 13 ∷ []) $ free1 ! $ free0 ! $ keep ! (0 ∷ 1 ∷ 2 ∷ 3 ∷ 6 ∷ []) $ by ! (exits r (zs .1 .1 .0) (zs .1 .1 .1 .0) (zs .1 .1 .1 .1 .0) (zs .1 .1 .1 .1 .1 .0) (zs .1 .1 .1 .1 .1 .1 .0) (zs .1 .1 .1 .1 .1 .1 .1 .0) (zs .1 .1 .1 .1 .1 .1 .1 .1 .0) e len-log ((LL.owed T2.the-type T2′.the-laws r (w ∷ []) is .1 .1 .0) .1))))))))))))))))))))))))))))))))))))))))
+        move ! (44 ∷ 45 ∷ []) $ free1 ! $ move ! (42 ∷ 43 ∷ []) $ free1 ! $ move ! (40 ∷ 41 ∷ []) $ free1 ! $ move ! (38 ∷ 39 ∷ []) $ free1 ! $ move ! (36 ∷ 37 ∷ []) $ free1 ! $ move ! (34 ∷ 35 ∷ []) $ free1 ! $ move ! (32 ∷ 33 ∷ []) $ free1 ! $ move ! (30 ∷ 31 ∷ []) $ free1 ! $ move ! (28 ∷ 29 ∷ []) $ free1 ! $ move ! (26 ∷ 27 ∷ []) $ free1 ! $ move ! (24 ∷ 25 ∷ []) $ free1 ! $ move ! (22 ∷ 23 ∷ []) $ free1 ! $ move ! (20 ∷ 21 ∷ []) $ free1 ! $ move ! (18 ∷ 19 ∷ []) $ free1 ! $ move ! (16 ∷ 17 ∷ []) $ free1 ! $ move ! (14 ∷ 15 ∷ []) $ free1 ! $ move ! (12 ∷ 13 ∷ []) $ free1 ! $ free0 ! $ keep ! (0 ∷ 1 ∷ 2 ∷ 3 ∷ 6 ∷ []) $ by ! (exits r (zs .1 .1 .0) (zs .1 .1 .1 .0) (zs .1 .1 .1 .1 .0) (zs .1 .1 .1 .1 .1 .0) (zs .1 .1 .1 .1 .1 .1 .0) (zs .1 .1 .1 .1 .1 .1 .1 .0) (zs .1 .1 .1 .1 .1 .1 .1 .1 .0) e len-log ((LL.owed T3.the-type T3′.the-laws r (w ∷ []) is .1 .1 .0) .1))))))))))))))))))))))))))))))))))))))))
 
 module _ {M : Type 1} (𝓤 : URA M) (H : Heap 𝓤) (A : Atoms 𝓤) (W : Given 𝓤 H A) (mem : Memory → SProp 𝓤) (run : Routine → Fun 𝓤) where
   kerb-link-walks : (C : Calls 𝓤 H) (Λ : Loops 𝓤 H) → FmC 𝓤 H (W .laws) C → Triple 𝓤 (C #book·fields·link) (Callee 𝓤 H A mem run) → Walks 𝓤 H A f.ended stayed (WpFn 𝓤 H C Λ code.function) (f.clauses 𝓤 H A mem run)

@@ -11,7 +11,7 @@ use Rattle.book.proofs.fields.clock.Tie as tie
 -- the book of the lent fields, at the function's entry
 abbrev book : tie.Start → Book
 book c =
-    bookOf (c .args .clock) (c .args .mounting) (c .args .counts .now) (c .args .forward-parent .now) (c .args .forward-size .now) (c .args .backward-parent .now) (c .args .backward-size .now) (c .args .backward-label .now)
+    bookOf (c .args .clock) (c .args .fitting) (c .args .counts .now) (c .args .forward-parent .now) (c .args .forward-size .now) (c .args .backward-parent .now) (c .args .backward-size .now) (c .args .backward-label .now)
 
 -- the entry, from where the number is known
 abbrev entry : tie.After-clock-number → tie.Start
@@ -48,7 +48,7 @@ returns-2 : tie.Need-returns-2
 unfolding clockOf clockByNumber
 returns-2 c =
     let d = c .before .before .before .before .before .before .before in
-    rw (numbered-0 d) (record { answered = ap (λ b. record { book = b; number = 0 }) (c .move-to .ensures (entry (d .before) .args .mounting)); logged = refl })
+    rw (numbered-0 d) (record { answered = ap (λ b. record { book = b; number = 0 }) (c .move-to .ensures (entry (d .before) .args .fitting)); logged = refl })
 
 pub clock-spec : {M : Type 1} → statement M
 clock-spec =

@@ -18,7 +18,7 @@ use Rattle.book.proofs.fields.link.Tie as tie
 -- the book of the lent fields, at the function's entry
 abbrev book : tie.Start → Book
 book c =
-    bookOf (c .args .clock) (c .args .mounting) (c .args .counts .now) (c .args .forward-parent .now) (c .args .forward-size .now) (c .args .backward-parent .now) (c .args .backward-size .now) (c .args .backward-label .now)
+    bookOf (c .args .clock) (c .args .fitting) (c .args .counts .now) (c .args .forward-parent .now) (c .args .forward-size .now) (c .args .backward-parent .now) (c .args .backward-size .now) (c .args .backward-label .now)
 
 -- the place where number 1 is known, and the entry, from where the number is known
 abbrev ordered : tie.After-link-number → tie.After-in-order
@@ -82,7 +82,7 @@ store-requires : tie.Need-store-requires
 store-requires c κs =
     let m = c .before .before .before .before in
     let d = entry (taken-of m .before) in
-    let moved = m .move-to .ensures (d .args .mounting) in
+    let moved = m .move-to .ensures (d .args .fitting) in
     room (sym moved) (link-room (book d) (d .args .log .now) (d .args .tick) (d .args .one) (d .args .other) (numbered-0 (taken-of m)))
   where
     room : {b c : Book} {log : _} → b ≡ c → Room (b .clock) (b .counts) log → Room (c .clock) (c .counts) log
@@ -106,10 +106,10 @@ returns-2 c =
     let second = m .before .before .before .before .before .before .before .before in
     rw (numbered-0 (taken-of m))
     (gives
-    (s .store .ensures (d .args .mounting) _ _ _
-    ∙ ap (λ moved. linkStored moved log (second .before .lorry-cell .result) (second .lorry-cell2 .result)) (m .move-to .ensures (d .args .mounting))
+    (s .store .ensures (d .args .fitting) _ _ _
+    ∙ ap (λ moved. linkStored moved log (second .before .lorry-cell .result) (second .lorry-cell2 .result)) (m .move-to .ensures (d .args .fitting))
     ∙ ap (λ one. linkStored (movedBook b log (d .args .tick)) log one (second .lorry-cell2 .result)) (second .before .lorry-cell .ensures)
-    ∙ ap (linkStored (movedBook b log (d .args .tick)) log (lorryCell (d .args .mounting) (d .args .one))) (second .lorry-cell2 .ensures)))
+    ∙ ap (linkStored (movedBook b log (d .args .tick)) log (lorryCell (d .args .fitting) (d .args .one))) (second .lorry-cell2 .ensures)))
 
 pub link-spec : {M : Type 1} → statement M
 link-spec =

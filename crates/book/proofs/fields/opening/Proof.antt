@@ -1,5 +1,5 @@
 -- `book::fields::opening` meets its contract: a refusal changes nothing, and else the log is cleared and the book is fresh.
-use mathlib.Core.Path.{_≡_, refl, sym, ap, _∙_}
+use mathlib.Core.Path.{_≡_, refl, sym, ap, _∙_, ap₂}
 use native.Mathlib.Omega.{arith}
 use borrow.Author.Needs.{needs}
 use Rattle.book_state.specs.declared.Book.{Book}
@@ -14,7 +14,7 @@ use Rattle.book.proofs.fields.opening.Tie as tie
 -- the book of the lent fields, at the function's entry
 abbrev book : tie.Start → Book
 book c =
-    bookOf (c .args .clock) (c .args .mounting) (c .args .counts .now) (c .args .forward-parent .now) (c .args .forward-size .now) (c .args .backward-parent .now) (c .args .backward-size .now) (c .args .backward-label .now)
+    bookOf (c .args .clock) (c .args .fitting) (c .args .counts .now) (c .args .forward-parent .now) (c .args .forward-size .now) (c .args .backward-parent .now) (c .args .backward-size .now) (c .args .backward-label .now)
 
 -- the entry, from where the number is known
 abbrev entry : tie.After-opening-number → tie.Start
@@ -47,18 +47,21 @@ freshen-requires c κs = search needs
 start-requires : tie.Need-start-requires
 start-requires c κs = search needs
 
+fitting-requires : tie.Need-fitting-requires
+fitting-requires c κs = search needs
+
 same-length-2 : tie.Need-same-length-2
 same-length-2 c = search needs
 
 returns-2 : tie.Need-returns-2
 unfolding openingOf openingByNumber
 returns-2 c =
-    let d = c .before .before .before .before .before .before .before .before .before .before .before .before in
+    let d = c .before .before .before .before .before .before .before .before .before .before .before .before .before in
     let s = entry (d .before) .args .s in
     rw (numbered-0 d)
     (record {
-      answered = ap (λ b. record { book = b; number = 0 }) (emptied-made _ (s .mounting) (c .before .before .freshen .ensures) ∙ ap (λ clock. emptied clock (s .mounting)) (c .start .ensures));
-      logged = c .before .before .before .before .before .before .before .before .before .before .clear .ensures;
+      answered = ap (λ b. record { book = b; number = 0 }) (emptied-made _ _ (c .before .before .before .freshen .ensures) ∙ ap₂ emptied (c .before .start .ensures) (c .fitting .ensures));
+      logged = c .before .before .before .before .before .before .before .before .before .before .before .clear .ensures;
     })
 
 pub opening-spec : {M : Type 1} → statement M
@@ -71,5 +74,6 @@ opening-spec =
     clear-requires
     freshen-requires
     start-requires
+    fitting-requires
     same-length-2
     returns-2)

@@ -90,7 +90,7 @@ same-length c = simp length-set
 
 returns : tie.Need-returns
 unfolding linkStored
-returns c mounting backwardParent backwardSize backwardLabel =
+returns c fitting backwardParent backwardSize backwardLabel =
     let spot = spot-is (c .before .before .before .before .before .before .before .before .before .before) in
     rw (c .merge-sizes .ensures, c .before .before .merge-parents .ensures, c .before .before .before .before .merge-of .ensures, spot)
 

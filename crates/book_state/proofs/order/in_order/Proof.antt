@@ -32,10 +32,10 @@ entry5 c = entry4 (c .before .before)
 timely : (c : tie.Else1) → clockInRange (entry1 c .args .clock) ≡ true
 timely c = sym (c .before .in-range .ensures) ∙ not-false _ (c .if1 .left)
 
-held : (c : tie.Else2) → (let args = entry2 c .args in heldInRange (args .clock .n) (args .clock .b) (args .mounting) ≡ true)
+held : (c : tie.Else2) → (let args = entry2 c .args in heldInRange (args .clock .n) (args .clock .b) (args .fitting .mounting) ≡ true)
 held c = unless-passed _ 1 (sym (c .before .judge .ensures) ∙ c .if2 .left)
 
-unheld : (c : tie.Then2) → (let args = entry1 (c .before .before) .args in heldInRange (args .clock .n) (args .clock .b) (args .mounting) ≡ false)
+unheld : (c : tie.Then2) → (let args = entry1 (c .before .before) .args in heldInRange (args .clock .n) (args .clock .b) (args .fitting .mounting) ≡ false)
 unheld c = unless-failed _ 2 (λ e. c .if2 .taken (c .before .judge .ensures ∙ e))
 
 few : (c : tie.Else3) → every (within 0 257) 0 (entry3 c .args .counts .now) ≡ true
