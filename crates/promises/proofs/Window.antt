@@ -92,7 +92,7 @@ module _ (b : Book) (log : List ℕ) (j : ℕ) where
 
 module _ {h : History} {s : State} (agrees : Agrees h s) where
   -- the links of a slide of the window stand in the log
-  links-of-age : (age t : ℕ) → age + t ≡ openSlideIn h → age < h .clock .n →
+  pub links-of-age : (age t : ℕ) → age + t ≡ openSlideIn h → age < h .clock .n →
       linksOfAge (s .book) (s .log) age ≡ reverse (linksOf (slideLinks t (h .links)))
   links-of-age age t e young =
       rw (agrees .clock, back, place-rest (h .clock) (wide (agrees .sensible)) t, kept .count) (kept .links)
