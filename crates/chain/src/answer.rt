@@ -5,6 +5,7 @@ ghost use mathlib.Core.Path.{_≡_};
 ghost use Prim.Native.Nat.{suc, _+_, _-_, _≤_, _<_};
 ghost use lib.ListN.{length, take};
 ghost use Rattle.graph.specs.Trail.{trailOf};
+ghost use Rattle.slides.specs.Clock.{slideLimit};
 ghost use Rattle.window.specs.Window.{highest};
 ghost use Rattle.window.specs.Gathered.{linksIn};
 ghost use Rattle.chain_fewest.specs.Lists.{linksOf};
@@ -48,7 +49,7 @@ pub fn answer(book: Book, log: &[u16], one: u16, other: u16, chain: &mut [u16]) 
 
 // The answer by the open slide k and the label: L is k + label - n, and the hold one less than the label.
 fn answered(k: u64, n: u8, label: u8, cells: u16) -> ChainAnswer
-    requires slide { ⌜ k < 4294967296 ⌝ }
+    requires slide { ⌜ k < slideLimit ⌝ }
     requires begun { ⌜ n ≤ k + label ⌝ }
     requires joined { ⌜ 1 ≤ label ⌝ }
     ensures { λ r. ⌜ r ≡ record { newest = k + label - n; cells = cells; hold = label - 1; number = 0 } ⌝ }

@@ -18,7 +18,7 @@ use Rattle.promises.specs.History.{Stored, History, openSlideIn, chunkIn
 use Rattle.promises.specs.Implementation.{State}
 use Rattle.promises.specs.Demands.{forwardForest, backwardForest}
 
--- the slides never rise from the front on, and none is above k; both ends of each link are cells
+-- newest first: slides never rise along the list, and none is above k; both ends of each link are cells
 pub data Falling : ℕ → List Stored → Type 0 where
   none : {k : ℕ} → Falling k []
   next : {k : ℕ} {s : Stored} {ss : List Stored} → s .slide ≤ k → s .link .one < cells → s .link .other < cells → Falling (s .slide) ss →
@@ -31,7 +31,7 @@ pub record Sensible (h : History) : Type 0 where
   pub falling : Falling (openSlideIn h) (h .links)
   pub few : (t : ℕ) → howMany (slideLinks t (h .links)) ≤ 256
 
--- slides of the open chunk and of the one before it
+-- a slide of the open chunk or of the one before it: those are in the log (RULES 7.7)
 abbrev pub Live : History → ℕ → Type 0
 Live h t = (t / h .clock .n ≡ chunkIn h) ⊎ (t / h .clock .n + 1 ≡ chunkIn h)
 

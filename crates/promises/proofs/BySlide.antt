@@ -1,6 +1,6 @@
--- The links of a history, slide by slide. A link that is picked by its slide is a link of one such slide (`in-slide`,
--- `of-slide`); so two picks link the same cells where they take the same slides. Labels, a cut and the order of a list
--- change nothing about which cells its links link, beyond the slides that the cut leaves.
+-- The links of a history, slide by slide. Links picked by a test on slides are the links of the slides that pass it (`in-slide`,
+-- `of-slide`), so two tests pick links of the same cells where they pass the same slides. Labels and the order of a list do not
+-- change which cells are linked, and a cut removes whole slides.
 use Prim.Native.Nat.{ℕ, _≤_}
 use mathlib.Core.Path.{_≡_, refl, _∙_, ap}
 use mathlib.Core.Bool.{Bool, true, false, cond, _&&_, not}
@@ -46,7 +46,7 @@ pub record InSlide (wanted : ℕ → Bool) (k : ℕ) (ss : List Stored) (x y : �
   pub picked : wanted slide ≡ true
   pub linked : Linked x y (linksOf (slideLinks slide ss))
 
--- and a picked link is one of a wanted slide
+-- and a picked link belongs to a wanted slide
 pub in-slide : (wanted : ℕ → Bool) {k : ℕ} {ss : List Stored} → Falling k ss → (x y : ℕ) → Linked x y (linksOf (ofSlides wanted ss)) → InSlide wanted k ss x y
 unfolding ofSlides
 in-slide wanted {k} (next {s} {ss} le _ _ falls) x y h = go (wanted (s .slide)) refl h (λ l. later (in-slide wanted falls x y l))
@@ -61,15 +61,15 @@ in-slide wanted {k} (next {s} {ss} le _ _ falls) x y h = go (wanted (s .slide)) 
     go true e (there l) on = on l
     go false e l on = on l
 
--- ---- labelled by slide, cut, and turned round
+-- ---- labelled by slide, cut, and reversed
 
--- a stored link with a label by its slide
+-- a stored link, labelled by its slide
 abbrev pub labelBy : (ℕ → ℕ) → Stored → Labelled
 labelBy g s = record { label = g (s .slide); link = s .link }
 
--- where a later slide has no lower label, labels of links turned round never rise
+-- where a later slide never has a lower label, the labels of the reversed links never rise
 module _ (g : ℕ → ℕ) (wanted : ℕ → Bool) (rise : (t u : ℕ) → wanted t ≡ true → wanted u ≡ true → t ≤ u → g t ≤ g u) where
-  -- all labels are at least that of any wanted slide up to k
+  -- no label is below that of any wanted slide up to k
   abbrev Above : ℕ → List Labelled → Type 0
   Above k = Each (λ y. (t : ℕ) → wanted t ≡ true → t ≤ k → g t ≤ y .label)
 
@@ -116,7 +116,7 @@ pub cut-turned : (cut : ℕ) (xs : List Labelled) → map (λ x. x .link) (atLea
 unfolding atLeast
 cut-turned cut xs = ap (map (λ x. x .link)) (cut-reverse cut xs []) ∙ map-onto _ (atLeast cut xs) []
 
--- a list that is turned round links the same cells
+-- a reversed list links the same cells
 pub turned-links : (ls : List Link) → Relinks (reverse ls) ls
 turned-links [] x y h = h
 turned-links (l ∷ ls) x y h = ⊎-elim (λ k. there (turned-links ls x y k)) (linked-left ls) (linked-append-cases (reverse ls) (rw (reverse-cons l ls) at h))

@@ -1,10 +1,10 @@
 -- Demand 3, Chain: what the chain call promises of a book that agrees with a history, as every book does that calls have left.
 --
--- It goes by the largest label j such that the window's links from it on chain the two. Links with label c + 1 or more are those of
--- the window c closings later (Window). So two different cells are chained c closings later exactly when c < j, and the hold is
--- j - 1. The last window that chains them has the links of slides L to k, with L + n = k + j: it does not start before slide 0,
--- since one closing more would then lose nothing. A best trail over cells below 1,024 has at most 1,024 of them (the crate graph),
--- so number 8 never comes.
+-- Let j be the largest label such that the window's links with label j or more chain the two. Links with label c + 1 or more are
+-- those of the window c closings later (Window). So two different cells are chained c closings later exactly when c < j, and the hold
+-- is j - 1. The last window that chains them has the links of slides L to k, with L + n = k + j; it does not start before slide 0,
+-- since otherwise one closing more would lose no link. A best trail over cells below 1,024 has at most 1,024 of them (the crate
+-- graph), so number 8 never comes.
 use Prim.Native.Nat.{ℕ, suc, _+_, _-_, _≤_, _<_, zero-le}
 use mathlib.Core.Path.{_≡_, refl, sym, _∙_, ap, subst, subst⁻¹}
 use mathlib.Core.Bool.{Bool, true, false, and-eq-true-iff}
@@ -47,7 +47,7 @@ use Rattle.promises.proofs.Window.{none-above, book-window, window-book
 use Rattle.promises.proofs.JoinedIs.{joined-window}
 
 module _ {h : History} {s : State} (agrees : Agrees h s) (one other : ℕ) where
-  -- the window's links as the book holds them, and the largest label from which on they chain the two
+  -- the window's links as the book holds them, and the largest label such that those with that label or more chain the two
   abbrev held : List Labelled
   held = windowLinks (s .book) (s .log)
 
@@ -72,7 +72,7 @@ module _ {h : History} {s : State} (agrees : Agrees h s) (one other : ℕ) where
   label-held : 0 < label → Chained (linksFromLabel label held) one other
   label-held l = highest-chained held one other (suc (s .book .clock .n)) label l (le-refl label)
 
-  -- the links from it on are those of the window as many closings later, less one
+  -- the links with that label or more are those of the window label - 1 closings later
   held-closed : 0 < label → Relinks (linksFromLabel label held) (closed h (label - 1))
   held-closed l = subst⁻¹ (λ i. Relinks (linksFromLabel i held) (closed h (label - 1))) (label-suc l) (book-window agrees (label - 1))
 

@@ -1,8 +1,8 @@
 -- The chunk that ends: the links that the book reads for the backward forest, place by place in order of arrival, are those of
 -- the history's slides of that chunk at places 1 to n - 1, each with its place.
 --
--- The log holds each slide's links in order of arrival (`Kept`). Slides never rise from the front of the history on, so those
--- of the places above p stand before those of p, and the history read from its end is the slides one after the other.
+-- The log holds each slide's links in order of arrival (`Kept`). A history has its newest links first, so those of places above p
+-- stand before those of place p, and the reversed history is the slides one after the other.
 use Prim.Native.Nat.{ℕ, zero, suc, _+_, _-_, _*_, _/_, _%_, _≤_, _<_}
 use mathlib.Core.Path.{_≡_, refl, sym, _∙_, ap, ap₂}
 use mathlib.Core.Bool.{Bool, true, false, _&&_, and-eq-true-iff}
@@ -64,7 +64,7 @@ module _ {h : History} {s : State} (a : Agrees h s) where
       let spot : spotOf (halfOf q) p ≡ spotIn h (slideAt p) = rw (chunk-at p l, place-at p l) in
       rw (spot, k .count) (k .links)
 
-  -- ---- the slides of the chunk from place p on
+  -- ---- the slides of the chunk at place p or above
 
   abbrev fromPlace : ℕ → ℕ → Bool
   fromPlace p t = eqb (t / n + 1) (q + 1) && leb p (t % n)
@@ -82,7 +82,7 @@ module _ {h : History} {s : State} (a : Agrees h s) where
   of-chunk : (t : ℕ) → t / n ≡ q → n * q + t % n ≡ t
   of-chunk t e = rw (← e) (div-add-mod t n)
 
-  -- those later than the slide at place p, and those up to it
+  -- slides later than the one at place p, and slides up to it
   above : (p : ℕ) → p < n → (t : ℕ) → slideAt p < t → (eqb t (slideAt p) ≡ false) × (fromPlace p t ≡ fromPlace (suc p) t)
   above p l t later = (
     ne-eqb t (slideAt p) (λ e. omega arith),
@@ -120,7 +120,7 @@ module _ {h : History} {s : State} (a : Agrees h s) where
   next-place p l =
       split-at (a .sensible .falling) (fromPlace p) (fromPlace (suc p)) (λ t. eqb t (slideAt p)) (slideAt p) (above p l) (below p l)
 
-  -- the places from p on, m of them, and no more
+  -- the last m places of the chunk, which begin at place p
   chunk-from : (m p : ℕ) → p + m ≡ n
       → chunkLinks (s .book .counts) (s .log) (halfOf q) p m ≡ reverse (labels (ofSlides (fromPlace p) (h .links)))
   unfolding chunkLinks

@@ -1,5 +1,5 @@
--- The windows to come, if nothing is logged: those of the history at slide k + c, c closings after the open slide k. Each closing
--- takes the links of one slide away, so the window at k + c has the links of the slides from k + c + 1 - n on, as far as they exist.
+-- The windows to come, if nothing is logged: c closings after the open slide k, the window is that of the history at slide k + c.
+-- Each closing takes the links of one slide away, so the window at k + c has the links of slides k + c + 1 - n to k.
 use Prim.Native.Nat.{ℕ, _+_, _≤_, _<_}
 use mathlib.Core.Path.{_≡_, ap, ap₂}
 use mathlib.Core.Bool.{Bool, true, false, cond, _&&_, and-eq-true-iff}
@@ -27,7 +27,7 @@ closed h c = linksOf (windowAt h (openSlideIn h + c))
 pub closed-now : (h : History) → closed h 0 ≡ windowOf h
 closed-now h = ap (λ k. linksOf (windowAt h k)) (add-zero (openSlideIn h))
 
--- the window once time has moved to a tick: the one at the tick's slide
+-- once time has moved to a tick, the window is the one at the slide of the tick
 pub window-then : (h : History) (tick : ℕ) → notBefore (h .clock) tick ≡ true → windowOf (withTime h tick) ≡ linksOf (windowAt h (slideOf (h .clock) tick))
 window-then h tick later =
     ap₂ (λ n k. linksOf (ofSlides (inWindow n k) (h .links))) (moved-n (h .clock) tick) (moved-slide (h .clock) tick later)

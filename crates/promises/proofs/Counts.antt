@@ -1,5 +1,5 @@
--- The counts when the next chunk begins: those of its half are 0 (the crate book_time), and every other is as it was, that of the
--- chunk before among them.
+-- The counts when the next chunk begins: those of its half are 0 (the crate book_time), and all others are as they were, among them
+-- those of the chunk before.
 use Prim.Native.Nat.{ℕ, _+_, _-_, _*_, _≤_, _<_, zero-le}
 use mathlib.Core.Path.{_≡_, _∙_, ap}
 use mathlib.Core.List.{List, _++_}

@@ -1,6 +1,6 @@
--- Demand 1 of files: with a refusal the reader's other fields are 0 and the lent buffers of the writer and of the listing are
--- unchanged (the first two by the crate file); and where playing stops at a record, the book and its log are those that
--- the records before it have left, since a refused link changes nothing.
+-- Demand 1, FilesRefused: when the reader refuses, its other fields are 0; when the writer or the listing refuses, its output is
+-- unchanged (reader and writer by the crate file). Where playing stops at a record, the book and its log are as the records before
+-- it left them, since a refused link changes nothing.
 use Prim.Native.Nat.{ℕ, zero, suc}
 use mathlib.Core.Path.{_≡_, refl}
 use mathlib.Core.Bool.{Bool, true, false}

@@ -16,11 +16,11 @@ pub each-made : {P : Labelled → Type 0} (make : Stored → Labelled) → ((s :
 each-made make p [] = empty
 each-made make p (s ∷ ss) = also (p s) (each-made make p ss)
 
--- those that the forward forest is made of, the newest at the front
+-- the links of the forward forest, newest first
 abbrev pub ofChunk : History → List Stored
 ofChunk h = ofSlides (λ t. eqb (t / h .clock .n) (chunkIn h)) (h .links)
 
--- and the backward forest
+-- the links of the backward forest, newest first
 abbrev pub scanned : History → List Stored
 scanned h = ofSlides (λ t. eqb (t / h .clock .n + 1) (chunkIn h) && leb 1 (t % h .clock .n)) (h .links)
 

@@ -1,7 +1,7 @@
 -- A book that agrees with a history is in order: number 1 never comes from it.
 --
--- The clock and the mounting of a history are in range. The lists hold forests of links between cells with
--- places as labels, whose ranges and walks the crate graph knows.
+-- The clock and the mounting of a history are in range. The lists hold forests of links between cells, with places as labels; the
+-- crate graph has the laws on the ranges and walks of such forests.
 use Prim.Native.Nat.{ℕ, _%_, _≤_, zero-le}
 use mathlib.Core.Path.{_≡_, ap, subst⁻¹}
 use mathlib.Core.Bool.{true}

@@ -1,8 +1,8 @@
 -- Demand 2, Joined: what the joined call promises of a book that agrees with a history, as every book does that calls have left.
 --
--- Yes: the parent steps by which it goes are those of the two forests, the backward ones at the cut. The forward steps chain
--- what the open chunk's links chain, and the backward steps what the links chain that the cut leaves of the chunk before
--- (Steps, with the paper's Lemma 5.6); together these are the links of the window (Split).
+-- Yes: it goes by the parent steps of the two forests, the backward ones at the cut. The forward steps chain what the links of the
+-- open chunk chain. The backward steps chain what is chained by those links of the chunk before that the cut leaves (Steps, with the
+-- paper's Lemma 5.6). Together these are the links of the window (Split).
 -- Steps: the arrays hold the forests of the history, so the four walks are the same walks, and each is at most 10 long.
 use Prim.Native.Nat.{ℕ, zero, suc, _+_, _≤_, zero-le}
 use mathlib.Core.Path.{_≡_, _∙_, ap, ap₂, subst}

@@ -1,8 +1,8 @@
--- Calls keep a book and its log in agreement with the history that they tell, from any book and log on.
+-- Calls keep a book and its log in agreement with the history that they tell, whatever book and log they start from.
 --
--- A call gives the number that the history gives. Where that is not 0, neither changes. Where it is 0 the call is an opening,
--- with which agreement begins (KeptByOpening); or time moves (KeptByTime), and for a link it is then stored (KeptByLink).
--- Before the first opening that gives 0 there is nothing to keep, but that the log has as many places as ever.
+-- A call gives the number that the history gives. Where that is not 0, nothing changes. Where it is 0, the call is an opening, and
+-- agreement begins with it (KeptByOpening); or time moves (KeptByTime), and then a link is stored (KeptByLink). Before the first
+-- opening that gives 0 there is nothing to keep, except that the log has as many places as before.
 use Prim.Native.Nat.{ℕ, zero, suc}
 use mathlib.Core.Path.{_≡_, refl, sym, _∙_, subst, subst⁻¹}
 use mathlib.Core.Bool.{true, and-eq-true-iff}
@@ -80,7 +80,7 @@ room-after s (c ∷ cs) = room-after (stateOf (gives ours s c)) cs ∙ room-kept
 
 -- ---- one call more
 
--- what is told so far, and a book and log that agree with it
+-- the state agrees with the history so far, if there is one
 Fits : Option History → State → Type 0
 Fits none s = Unit {0}
 Fits (some h) s = Agrees h s

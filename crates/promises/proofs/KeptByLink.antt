@@ -1,9 +1,9 @@
 -- A link that is stored keeps a book and its log in agreement with the history.
 --
--- It goes to the front of the history's links, with the open slide. The count of that slide's spot grows by one, and its pair
--- stands in the log after those that were there; every other live slide has another spot, and neither count nor links of it
--- change. The forward forest has one link more, and so have its lists (the crate forest_unite); the backward forest is as before,
--- since the open chunk is not the one before it.
+-- It goes to the front of the history's links, with the open slide. The count at that slide's spot grows by one, and the pair stands
+-- in the log after those that were there. Every other live slide has another spot, so its count and its links stay as they were. The
+-- forward forest has one link more, and its lists hold that (the crate forest_unite). The backward forest stays as it was, since the
+-- open slide is not of the chunk before.
 use Prim.Native.Nat.{ℕ, _+_, _%_, _≤_, _<_}
 use mathlib.Core.Path.{_≡_, refl, sym, _∙_, ap, fun-ext}
 use mathlib.Core.Logic.{inl}
@@ -134,7 +134,7 @@ module _ {h : History} {s : State} (a : Agrees h s) (l : Link) (one : l .one < c
       ap (λ ss. reverse (map (labelBy (λ t. t % h .clock .n)) ss))
       (left-one _ stored (h .links) (rw (ne-eqb (chunkIn h + 1) (chunkIn h) (omega arith))))
 
-  -- the forward forest as lists: all its labels are 0, so that it does without them in the book
+  -- the forward forest as lists: all its labels are 0, so the book does not hold them
   abbrev lists : Arrays
   lists = record { parents = s .book .«forward_parent»; sizes = s .book .«forward_size»; labels = freshLabels cells }
 

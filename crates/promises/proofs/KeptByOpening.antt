@@ -1,7 +1,7 @@
 -- An opening that gives 0 leaves a book and a log that agree with the history that begins there, whatever they were.
 --
--- More is shown, since it serves where time jumps over a chunk: a book with nothing stored agrees with every history that has
--- no links in the open chunk and in the one before it.
+-- More is shown, since it also serves where time jumps over a chunk: a book with nothing stored agrees with every history that has
+-- no links in the open chunk or in the one before it.
 use Prim.Native.Nat.{ℕ, _+_, _/_, _%_, _≤_, zero-le}
 use mathlib.Core.Path.{_≡_, refl, sym, _∙_, ap}
 use mathlib.Core.Bool.{Bool, true, false, cond, and-eq-true-iff}
@@ -40,7 +40,7 @@ pub fresh-forest : {xs : List Labelled} → xs ≡ []
     → held (freshArrays .parents) (freshArrays .sizes) (freshArrays .labels) ≡ forestOf stepLimit xs
 fresh-forest e = holds-fresh .holds ∙ ap (forestOf stepLimit) (sym e)
 
--- no links of slides of the open chunk and the one before it, nor of later ones
+-- no link has a slide of the chunk before the open one or of any later chunk
 abbrev pub Bare : History → Type 0
 Bare h = (wanted : ℕ → Bool) → ((t : ℕ) → wanted t ≡ true → chunkIn h ≤ t / h .clock .n + 1) → ofSlides wanted (h .links) ≡ []
 

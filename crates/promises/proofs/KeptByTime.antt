@@ -1,9 +1,9 @@
--- Time that moves keeps a book and its log in agreement with the history, which has the later time and the same links.
+-- A book and its log stay in agreement with the history when time moves: both clocks move in the same way, and the history's links
+-- stay the same.
 --
--- In the same chunk nothing else changes. Into the next chunk: the links of the chunk that ends make the backward forest
--- (ChunkEnds); no link has a slide of the new chunk, so the forward forest is fresh and the new half's counts are 0, while the
--- other half is as it was. Further: no link has a slide of the open chunk or of the one before it, and the book has nothing
--- stored.
+-- Within the chunk nothing else changes. Into the next chunk: the links of the chunk that ends make the backward forest (ChunkEnds);
+-- no link has a slide of the new chunk, so the forward forest is fresh and the counts of the new half are 0, while the other half
+-- stays as it was. Further: no link has a slide of the new chunk or of the one before it, and the book has nothing stored.
 use Prim.Native.Nat.{ℕ, _+_, _/_, _≤_, _<_}
 use mathlib.Core.Path.{_≡_, sym, _∙_, ap}
 use mathlib.Core.Bool.{Bool, true}
@@ -36,7 +36,7 @@ module _ {h : History} {s : State} (a : Agrees h s) (tick : ℕ) (later : notBef
 
   -- ---- the history at the later time
 
-  -- time that moves leaves n alone, and so the chunk of every slide
+  -- moving time changes neither n nor, therefore, the chunk of any slide
   n-then : then .clock .n ≡ h .clock .n
   n-then = moved-n (h .clock) tick
 
@@ -62,7 +62,7 @@ module _ {h : History} {s : State} (a : Agrees h s) (tick : ℕ) (later : notBef
   clock-then : movedTo (s .book .clock) tick ≡ then .clock
   clock-then = ap (λ c. movedTo c tick) (a .clock)
 
-  -- no link has a slide of a later chunk than the open one was
+  -- no link has a slide of a chunk after the one that was open
   none-then : (wanted : ℕ → Bool) → ((t : ℕ) → wanted t ≡ true → chunkIn h < t / h .clock .n) → ofSlides wanted (h .links) ≡ []
   none-then wanted far =
       none-later (a .sensible .falling) wanted (λ t l. fails _ (λ e. omega (arith, far t e, chunk-later h (a .sensible) l)))

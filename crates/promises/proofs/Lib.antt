@@ -23,3 +23,4 @@ pub mod Spots
 pub mod Steps
 pub mod Table
 pub mod Window
+pub mod WindowIs

@@ -1,6 +1,5 @@
--- Lists of accepted links, those of some slides, and how they go together. In a history slides never rise from the front on
--- (`Falling`): so of some slides none is there that is later than the open one, and those of later slides stand before those
--- of earlier ones.
+-- Lists of accepted links, and the links of some slides among them. A history has its newest links first (`Falling`): so no link has
+-- a slide after the open one, and links of later slides stand before those of earlier ones.
 use Prim.Native.Nat.{ℕ, _≤_, _<_}
 use mathlib.Core.Path.{_≡_, refl, sym, _∙_, ap}
 use mathlib.Core.Bool.{Bool, true, false}
@@ -22,13 +21,13 @@ pub fails : (t : Bool) → (t ≡ true → ⊥) → t ≡ false
 fails true n = absurd (n refl)
 fails false n = refl
 
--- ---- lists turned round
+-- ---- reversed lists
 
 pub map-onto {ℓ κ} : {A : Type ℓ} {B : Type κ} (f : A → B) (xs ys : List A) → map f (reverseAux xs ys) ≡ reverseAux (map f xs) (map f ys)
 map-onto f [] ys = refl
 map-onto f (x ∷ xs) ys = map-onto f xs (x ∷ ys)
 
--- ---- those of some slides
+-- ---- the links of some slides
 
 pub taken-one : (wanted : ℕ → Bool) (s : Stored) (ss : List Stored) → wanted (s .slide) ≡ true
     → ofSlides wanted (s ∷ ss) ≡ s ∷ ofSlides wanted ss
@@ -40,12 +39,12 @@ pub left-one : (wanted : ℕ → Bool) (s : Stored) (ss : List Stored) → wante
 unfolding ofSlides
 left-one wanted s ss e = rw e
 
--- a later slide may be the open one
+-- the list still falls when a later slide is the open one
 pub falling-later : {k l : ℕ} {ss : List Stored} → Falling k ss → k ≤ l → Falling l ss
 falling-later none h = none
 falling-later (next p one other on) h = next (le-trans p h) one other on
 
--- of slides later than all there is none
+-- no link has a slide after the open one
 pub none-later : {k : ℕ} {ss : List Stored} → Falling k ss → (wanted : ℕ → Bool) → ((t : ℕ) → t ≤ k → wanted t ≡ false)
     → ofSlides wanted ss ≡ []
 unfolding ofSlides
@@ -62,7 +61,7 @@ same-slides (next {s} {ss} p one other on) f g e =
     let rest : ofSlides f ss ≡ ofSlides g ss = same-slides on f g (λ t h. e t (le-trans h p)) in
     rw (e (s .slide) p, rest)
 
--- those later than c stand before the others
+-- links of slides later than c stand before the others
 pub split-at : {k : ℕ} {ss : List Stored} → Falling k ss → (both late early : ℕ → Bool) (c : ℕ)
     → ((t : ℕ) → c < t → (early t ≡ false) × (both t ≡ late t))
     → ((t : ℕ) → t ≤ c → (late t ≡ false) × (both t ≡ early t))

@@ -1,5 +1,5 @@
--- The log: what its links are depends on the entries of their own places alone, and a link more stands after those before it.
--- Two spots of 512 places each do not overlap.
+-- The log: links depend on the entries at their own places alone, and a further link stands after those before it. Spots have 512
+-- places each and do not overlap.
 use Prim.Native.Nat.{ℕ, zero, suc, _+_, _≤_, _<_}
 use mathlib.Core.Path.{_≡_, refl, _∙_, ap}
 use mathlib.Core.Bool.{Bool, true, false, cond, _&&_}
@@ -71,7 +71,7 @@ links-elsewhere : (log : List ℕ) (at : ℕ) (l : Link) (start n : ℕ) → (at
 links-elsewhere log at l start n (inl before) = links-same _ log start n (λ i a b. paired-other log at l i (omega arith) (omega arith))
 links-elsewhere log at l start n (inr after) = links-same _ log start n (λ i a b. paired-other log at l i (omega arith) (omega arith))
 
--- and after n links there is one more
+-- and a link stored after n links is one link more
 pub links-stored : (log : List ℕ) (start n : ℕ) (l : Link) → l .one < cells → l .other < cells → start + (n + n) + 1 < length log
     → linksAt (paired log (start + (n + n)) l) start (suc n) ≡ linksAt log start n ++ (l ∷ [])
 links-stored log start n l one other h =
@@ -81,7 +81,7 @@ links-stored log start n l one other h =
     ∙ ap (λ ls. linksAt log′ start n ++ ls) (keep-cells l [] one other)
     ∙ ap (λ ls. ls ++ (l ∷ [])) (links-elsewhere log (start + (n + n)) l start n (inr (omega arith)))
 
--- a link stored at a spot with less than 256 is no link of another spot
+-- a link stored at a spot with fewer than 256 links changes no other spot
 pub links-other-spot : (log : List ℕ) (spot count : ℕ) (l : Link) (spot′ count′ : ℕ) → (spot′ ≡ spot → ⊥) → count < 256 → count′ ≤ 256
     → linksAt (paired log (startOf spot + (count + count)) l) (startOf spot′) count′ ≡ linksAt log (startOf spot′) count′
 links-other-spot log spot count l spot′ count′ n c c′ = links-elsewhere log _ l (startOf spot′) count′ (side (decLt spot spot′))

@@ -1,7 +1,8 @@
 -- The number that a call gives, where book and log agree with a history, is the number that the history gives.
 --
--- The book is in order and the log has its places, so neither 1 nor 6 comes. The tick is compared with one clock. A slide that
--- is not before the open one is of the open chunk, and its count is the history's; or it is of a later one, and no link has it.
+-- The book is in order and the log has its places, so neither 1 nor 6 comes. Book and history compare the tick with the same clock. A
+-- slide that is not before the open one either belongs to the open chunk, and its count is the history's, or to a later chunk, and
+-- then no link has it.
 use Prim.Native.Nat.{ℕ, zero, suc, _/_}
 use mathlib.Core.Path.{_≡_, refl, sym, _∙_, ap}
 use mathlib.Core.Bool.{true, cond}
@@ -96,7 +97,7 @@ module _ {h : History} {s : State} (a : Agrees h s) where
   number-agrees (link tick one other) = link-gives (s .book) (s .log) tick one other ∙ link-number tick one other
   number-agrees (clock tick) = clock-gives (s .book) (s .log) tick ∙ clock-number tick
 
-  -- of a question
+  -- a question gives its number too
   pub asked-agrees : (one other : ℕ) → joinedOf (s .book) one other .number ≡ unless (areCells one other) 3
   unfolding joinedNumber
   asked-agrees one other = joined-gives (s .book) one other ∙ passes 1 _ (agrees-in-order a) ∙ first-last _

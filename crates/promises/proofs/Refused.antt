@@ -1,4 +1,4 @@
--- Demand 1, Refused: for every book and log, a number that is not 0 leaves them equal, and no call changes a log place from
+-- Demand 1, Refused: for every book and log, a number that is not 0 leaves both as they were, and no call changes a log place from
 -- 16,384 on.
 --
 -- Each call goes by its number: where that is not 0 the definition hands back what it was given. An opening writes the first

@@ -1,6 +1,6 @@
 -- For each public contract, two results that it allows are equal. Every contract but two is an equality with a definition, of the
--- result or of each of its parts. The crossing's says of yes and of no what each means, and the two exclude each other; that of
--- the lists says of each place which entry stands there, and there is one.
+-- result or of each of its parts. That of the crossing says what yes means and what no means, and the two exclude each other; that of
+-- the buckets says which entry stands at each place, and there is only one.
 use Prim.Native.Nat.{ℕ}
 use mathlib.Core.Path.{_≡_, refl, sym, _∙_}
 use mathlib.Core.List.{List}

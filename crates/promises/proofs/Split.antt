@@ -1,8 +1,8 @@
--- The window's links are those of the two forests: the links of the open chunk, all of them, and those of the chunk before
--- it whose places are above the open slide's, which are the ones that the cut leaves. Place 0 is never among these.
+-- The window's links are those of the two forests: all links of the open chunk, and those of the chunk before at places above the
+-- open slide's, which are the ones that the cut leaves. Place 0 is never among these.
 --
--- Links of the chunk before, turned round, come with labels that never rise, since slides never fall as links arrive and in
--- one chunk a later slide has a higher place.
+-- The links of the chunk before, reversed, have labels that never rise: slides never fall as links arrive, and within a chunk a
+-- later slide has a higher place.
 use Prim.Native.Nat.{ℕ, _+_, _/_, _%_, _≤_, _<_}
 use mathlib.Core.Path.{_≡_, _∙_, ap}
 use mathlib.Core.Bool.{Bool, true, _&&_, not, and-eq-true-iff}
@@ -29,14 +29,14 @@ forwardPart h = map (λ x. x .link) (forwardLinks h)
 abbrev pub backwardPart : History → List Link
 backwardPart h = map (λ x. x .link) (atLeast (cutIn h) (backwardLinks h))
 
--- a slide of the open chunk; one of the chunk before, at a place above the open slide's
+-- a slide of the open chunk; a slide of the chunk before, at a place above the open slide's
 abbrev pub Opened : History → ℕ → Type 0
 Opened h t = t / h .clock .n ≡ chunkIn h
 
 abbrev pub Before : History → ℕ → Type 0
 Before h t = (t / h .clock .n + 1 ≡ chunkIn h) × (placeIn h < t % h .clock .n)
 
--- the tests: of the open chunk; of the chunk before, place 0 left out; and what the cut leaves of that
+-- the tests on slides: of the open chunk; of the chunk before, without place 0; and of the latter what the cut leaves
 abbrev opened : History → ℕ → Bool
 opened h t = eqb (t / h .clock .n) (chunkIn h)
 
@@ -67,7 +67,7 @@ module _ {h : History} (sensible : Sensible h) where
   pub wide : 1 ≤ h .clock .n
   wide = sensible .range .n-least
 
-  -- in one chunk, places are in the order of the slides
+  -- within a chunk, places are in the order of the slides
   places-rise : (t u : ℕ) → t / h .clock .n ≡ u / h .clock .n → t ≤ u → t % h .clock .n ≤ u % h .clock .n
   places-rise t u q le = rw (← place-rest (h .clock) wide t, ← place-rest (h .clock) wide u) (place-order (h .clock) wide t u q .0 le)
 

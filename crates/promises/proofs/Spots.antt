@@ -1,5 +1,5 @@
--- The spot of a slide in the counts and in the log: below 32, the one that the book's clock gives, and another one for each
--- slide of the open chunk and of the one before it, since the two chunks have different halves.
+-- The spot of a slide in the counts and in the log: it is below 32, it is the one that the book's clock gives, and no two slides of
+-- the open chunk and the one before it share one, since the two chunks have different halves.
 use Prim.Native.Nat.{ℕ, _+_, _*_, _/_, _%_, _≤_, _<_}
 use mathlib.Core.Path.{_≡_, sym, _∙_, ap₂}
 use mathlib.Core.Logic.{inl, inr}
@@ -16,7 +16,7 @@ module _ (h : History) (sensible : Sensible h) where
   range : InRange (h .clock)
   range = sensible .range
 
-  -- a later slide is of no earlier chunk
+  -- a later slide is never of an earlier chunk
   pub chunk-later : {t u : ℕ} → t ≤ u → t / h .clock .n ≤ u / h .clock .n
   chunk-later {t} le = le-div-iff-mul-le (range .n-least) .1 (le-trans (div-mul-le-self t (h .clock .n)) le)
 
@@ -26,7 +26,7 @@ module _ (h : History) (sensible : Sensible h) where
   pub spot-below : (t : ℕ) → spotIn h t < 32
   spot-below t = omega (arith, place-in t)
 
-  -- the open slide's spot, by a clock that is the history's
+  -- the spot of the open slide, where the book's clock is the history's
   pub spot-open : (clock : Clock) → clock ≡ h .clock
       → spotOf (halfOf (chunkOf clock (openSlide clock))) (placeOf clock (openSlide clock)) ≡ spotIn h (openSlideIn h)
   spot-open clock e = rw (e, place-rest (h .clock) (range .n-least) (openSlideIn h))

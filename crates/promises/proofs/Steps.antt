@@ -1,5 +1,5 @@
--- The parent steps of a forest of links chain the cells that the links chain (by the crate book_joined's law on parent steps); and of
--- the steps of two forests together, either part may be replaced by links that chain the same cells.
+-- The parent steps of a forest chain the cells that the forest's links chain (by the crate book_joined's law on parent steps). Where
+-- the steps of two forests are taken together, either part may be replaced by links that chain the same cells.
 use Prim.Native.Nat.{ℕ, _^_, _≤_}
 use mathlib.Core.Path.{_≡_}
 use mathlib.Core.List.{List, _++_, map}
@@ -11,7 +11,7 @@ use Rattle.graph.proofs.Walks.{climb-way}
 use Rattle.graph.proofs.Forests.{grown, same-root}
 use Rattle.book_joined.proofs.Steps.{Steps, steps-chain}
 
--- so the steps of a forest of links chain the cells that the links chain
+-- so the steps chain what the links chain
 pub forest-chain : {k limit : ℕ} (enough : k ≤ limit) {xs : List Labelled} → EndsBelow (2 ^ k) xs → {ls : List Link} → Steps (forestOf limit xs .parent) 0 ls →
     (a b : ℕ) → Chained ls a b ↔ Chained (map (λ x. x .link) xs) a b
 unfolding walk

@@ -1,5 +1,5 @@
 -- Demand 0, Table: the number that the book gives is the number that the history gives. Calls keep book and log in agreement
--- with the history (Keeps), and where they agree so do the numbers (NumbersAgree). An opening's number asks for neither.
+-- with the history (Keeps), and where they agree the numbers agree too (NumbersAgree). An opening's number needs neither.
 use mathlib.Core.Path.{_≡_, _∙_, ap}
 use mathlib.Core.List.{[], _∷_}
 use Rattle.settings.specs.Settings.{takenNumber}

@@ -1,9 +1,9 @@
 -- The window of a book is the window of its history: the links that the crate window reads off a book and its log with a label
 -- of c + 1 or more link the same cells as those of the history's window at slide k + c, k being the open slide.
 --
--- For every book, links of label j or more are those of the ages a with a + j ≤ n, an age counting slides back from the open
--- one. Where a book agrees with a history, the links of age a stand in the log as those of slide k - a, which is of the open
--- chunk or of the one before it.
+-- The age of a slide is how many slides it lies before the open one. In every book, links with label j or more are those of the ages
+-- a with a + j ≤ n. Where a book agrees with a history, the log holds for age a the links of slide k - a, which belongs to the open
+-- chunk or to the one before it.
 use Prim.Native.Nat.{ℕ, zero, suc, _+_, _-_, _≤_, _<_, zero-le}
 use mathlib.Core.Path.{_≡_, refl, ap}
 use mathlib.Core.Bool.{Bool, true, false, cond, and-eq-true-iff}
@@ -30,7 +30,7 @@ use Rattle.promises.proofs.Split.{wide, in-window}
 
 -- ---- of every book: links by label are links by age
 
--- links of one label, before others: all of them count, or none
+-- links that share a label, before others: all of them count, or none
 label-append : (j l : ℕ) (t : Bool) → ltb l j ≡ t → (ls : List Link) (xs : List Labelled) →
     linksFromLabel j (map (labelled l) ls ++ xs) ≡ cond t [] ls ++ linksFromLabel j xs
 unfolding atLeast
@@ -53,7 +53,7 @@ module _ (j l : ℕ) (ls : List Link) (xs : List Labelled) (x y : ℕ) where
   label-right : Linked x y (linksFromLabel j xs) → Linked x y (linksFromLabel j (map (labelled l) ls ++ xs))
   label-right h = rw (label-append j l (ltb l j) refl ls xs) (linked-right (cond (ltb l j) [] ls) h)
 
--- two cells are linked in the slide of an age, among so many from an age on, and its label is j or more
+-- two cells are linked in a slide whose age is at least `from` and below `from + more`, and whose label is j or more
 record OfAge (b : Book) (log : List ℕ) (j from more x y : ℕ) : Type 0 where
   pub age : ℕ
   pub least : from ≤ age
@@ -62,7 +62,7 @@ record OfAge (b : Book) (log : List ℕ) (j from more x y : ℕ) : Type 0 where
   pub linked : Linked x y (linksOfAge b log age)
 
 module _ (b : Book) (log : List ℕ) (j : ℕ) where
-  -- a link of label j or more is one of an age,
+  -- a link with label j or more belongs to such a slide,
   of-age : (from more x y : ℕ) → Linked x y (linksFromLabel j (linksFromAge b log from more)) → OfAge b log j from more x y
   unfolding linksFromAge atLeast
   of-age from zero x y h = absurd (nothing-linked h)
@@ -73,7 +73,7 @@ module _ (b : Book) (log : List ℕ) (j : ℕ) where
       later : OfAge b log j (suc from) more x y → OfAge b log j from (suc more) x y
       later i = record { age = i .age; least = omega arith; below = omega arith; label = i .label; linked = i .linked }
 
-  -- and the links of such an age are there
+  -- and the links of such a slide have label j or more
   age-of : (from more x y : ℕ) → OfAge b log j from more x y → Linked x y (linksFromLabel j (linksFromAge b log from more))
   unfolding linksFromAge
   age-of from zero x y i = absurd (omega arith)
@@ -91,8 +91,8 @@ module _ (b : Book) (log : List ℕ) (j : ℕ) where
 -- ---- of a book that agrees with a history: links by age are links by slide
 
 module _ {h : History} {s : State} (agrees : Agrees h s) where
-  -- the links of a slide of the window stand in the log
-  links-of-age : (age t : ℕ) → age + t ≡ openSlideIn h → age < h .clock .n →
+  -- the log holds the links of a slide of the window, in order of arrival
+  pub links-of-age : (age t : ℕ) → age + t ≡ openSlideIn h → age < h .clock .n →
       linksOfAge (s .book) (s .log) age ≡ reverse (linksOf (slideLinks t (h .links)))
   links-of-age age t e young =
       rw (agrees .clock, back, place-rest (h .clock) (wide (agrees .sensible)) t, kept .count) (kept .links)

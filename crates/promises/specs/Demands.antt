@@ -42,24 +42,28 @@ use Rattle.promises.specs.History.{
 }
 use Rattle.promises.specs.Implementation.{Implementation, State, gives, after, givesChain}
 
--- the log has its places
+-- the log has its 16,384 places (RULES 7.1, number 6)
 abbrev pub roomIn : State → Bool
 roomIn s = has logPlaces (s .log)
 
--- calls after which there is a history
+-- the calls tell this history
 abbrev pub HasHistory : State → List Call → History → Type 0
 HasHistory s calls h = historyOf (roomIn s) calls ≡ some h
 
--- 0. the number that the book gives is the number that the history gives; an opening's also where there is no history yet
+-- something holds of the state that calls leave and of the history that they tell, whatever the calls and the state before them
+abbrev pub AfterCalls : (p : Implementation) (holds : State → History → Type 0) → Type 0
+AfterCalls p holds = (s : State) (cs : List Call) (h : History) → HasHistory s cs h → holds (after p s cs) h
+
+-- 0. the number that the book gives is the number that the history gives (RULES 7.1, 7.8); an opening's also where there is no
+-- history yet
 pub record Table (p : Implementation) : Type 0 where
   pub openings : (s : State) (settings : Settings) →
       gives p s (opening settings) .number ≡ firstOf (takenNumber settings ∷ unless (roomIn s) 6 ∷ [])
   pub calls : (s : State) (cs : List Call) (h : History) → HasHistory s cs h → (c : Call) → gives p (after p s cs) c .number ≡ numberIn (roomIn s) h c
-  pub asks : (s : State) (cs : List Call) (h : History) → HasHistory s cs h → (one other : ℕ) →
-      p .joinedGives (after p s cs .book) one other .number ≡ unless (areCells one other) 3
+  pub asks : AfterCalls p λ s h. (one other : ℕ) → p .joinedGives (s .book) one other .number ≡ unless (areCells one other) 3
 
--- 1. for every book, log and chain buffer, altered ones too: a number that is not 0 leaves them equal and the other fields 0, and
--- no call changes a log place from 16,384 on
+-- 1. for every book, log and chain buffer, altered ones too: a number that is not 0 leaves them as they were and the other fields 0
+-- (RULES 7.4), and no call changes a log place from 16,384 on (RULES 7.5)
 pub record Refused (p : Implementation) : Type 0 where
   pub kept : (s : State) (c : Call) → (gives p s c .number ≡ 0 → ⊥) → (gives p s c .book ≡ s .book) × (gives p s c .log ≡ s .log)
   pub beyond : (s : State) (c : Call) → drop logPlaces (gives p s c .log) ≡ drop logPlaces (s .log)
@@ -71,15 +75,16 @@ pub record Refused (p : Implementation) : Type 0 where
       (o .answer .number ≡ 0 → ⊥) →
       o ≡ record { answer = record { newest = 0; cells = 0; hold = 0; number = o .answer .number }; chain = chain }
 
--- where playing from record i on stops at a refused record: so many records before it were taken, the book and its log are as
--- they left them, and the number is the link call's
+-- playing from record i on stopped at a refused record: the records before it were taken, `before` of them, the book and its log
+-- are as they left them, and the number is the link call's (RULES 6.6, 6.7)
 pub record Stopped (file : List ℕ) (i : ℕ) (b : Book) (log : List ℕ) (p : Play) : Type 0 where
   pub before : ℕ
   pub place : p .place ≡ i + before
   pub kept : playFrom file i before b log ≡ record { book = p .book; log = p .log; number = 0; place = 0 }
   pub number : recordGives file (p .place) (p .book) (p .log) .number ≡ p .number
 
--- 1, of files: with a refusal the other result fields are 0 and lent buffers are unchanged; a record that is refused changes nothing
+-- 1, for files: a refusal leaves the other result fields 0 and lent buffers as they were (RULES 7.4); a record that is refused
+-- changes nothing (RULES 6.7)
 pub record FilesRefused : Type 0 where
   pub read : (file : List ℕ) → (readNumber file ≡ 0 → ⊥) →
       readOf file ≡ record { settings = record { t0 = 0; b = 0; n = 0; mounting = 0 }; m = 0; number = readNumber file }
@@ -88,7 +93,7 @@ pub record FilesRefused : Type 0 where
       Stopped file 0 b log (playFrom file 0 m b log)
   pub list : (file out : List ℕ) → (listingOf file out .listed .number ≡ 0 → ⊥) → listingOf file out .output ≡ out
 
--- the two forests of the history, folded as RULES 3 says, and the cut
+-- the two forests of the history (RULES 3.4 to 3.9) and the cut (RULES 3.10)
 abbrev pub forwardForest : History → Forest
 forwardForest h = forestOf stepLimit (forwardLinks h)
 
@@ -98,61 +103,60 @@ backwardForest h = forestOf stepLimit (backwardLinks h)
 abbrev pub cutIn : History → ℕ
 cutIn h = placeIn h + 1
 
--- a cell's steps in the two forests
+-- a cell's steps in the two forests (RULES 3.12)
 abbrev pub backwardStepCount : (history : History) (cell : Cell) → ℕ
 backwardStepCount h c = walkAt stepLimit (backwardForest h) (cutIn h) c .steps
 
 abbrev pub forwardStepCount : (history : History) (cell : Cell) → ℕ
 forwardStepCount h c = walk stepLimit (forwardForest h) c .steps
 
--- both walks of a cell end, and within 10 steps: where they stop there is no further step to take
+-- both walks of a cell end, after 10 steps at most: where they stop there is no further step to take (RULES 3.12)
 pub record WalksEnd (h : History) (c : ℕ) : Type 0 where
   pub backward : parentAt (backwardForest h) (cutIn h) (walkAt stepLimit (backwardForest h) (cutIn h) c .root) ≡ walkAt stepLimit (backwardForest h) (cutIn h) c .root
   pub forward : forwardForest h .parent (walk stepLimit (forwardForest h) c .root) ≡ walk stepLimit (forwardForest h) c .root
   pub backward-short : backwardStepCount h c ≤ 10
   pub forward-short : forwardStepCount h c ≤ 10
 
--- 2. joined: yes exactly when the two are the same or links of the current window chain them; the count of forest steps is
--- the rule's, never above 40
+-- 2. joined: yes exactly when the two are the same or links of the current window chain them (RULES 4.4); the count of steps is that
+-- of the four walks, never above 40 (RULES 3.13)
 pub record Joined (p : Implementation) : Type 0 where
-  pub chained : (s : State) (cs : List Call) (h : History) → HasHistory s cs h → (one other : ℕ) → areCells one other ≡ true →
-      (p .joinedGives (after p s cs .book) one other .yes ≡ true) ↔ Chained (windowOf h) one other
-  pub steps : (s : State) (cs : List Call) (h : History) → HasHistory s cs h → (one other : ℕ) → areCells one other ≡ true →
-      p .joinedGives (after p s cs .book) one other .steps
+  pub chained : AfterCalls p λ s h. (one other : ℕ) → areCells one other ≡ true →
+      (p .joinedGives (s .book) one other .yes ≡ true) ↔ Chained (windowOf h) one other
+  pub steps : AfterCalls p λ s h. (one other : ℕ) → areCells one other ≡ true →
+      p .joinedGives (s .book) one other .steps
       ≡ backwardStepCount h one + backwardStepCount h other + forwardStepCount h one + forwardStepCount h other
-  pub few : (s : State) (cs : List Call) (h : History) → HasHistory s cs h → (one other : ℕ) →
-      p .joinedGives (after p s cs .book) one other .steps ≤ 40
-  pub ends : (s : State) (cs : List Call) (h : History) → HasHistory s cs h → (c : ℕ) → WalksEnd h c
+  pub few : AfterCalls p λ s h. (one other : ℕ) → p .joinedGives (s .book) one other .steps ≤ 40
+  pub ends : AfterCalls p λ s h. (c : ℕ) → WalksEnd h c
 
 -- what a chain call that gives 0 hands back: at the front of the buffer a chain from the first cell to the second over links of
--- slides L to k, with the fewest links, and among those the first by cell numbers; later places keep what they had.
--- Hold = L + n - 1 - k
+-- slides L to k (RULES 5.2), with the fewest links, and among those the first by cell numbers (RULES 5.3); later places keep what
+-- they had (RULES 5.9). Hold = L + n - 1 - k (RULES 5.5)
 pub record ChainGiven (h : History) (chain : List ℕ) (one other : ℕ) (o : ChainOutcome) : Type 0 where
   pub best : Best (linksSince h (o .answer .newest)) one other (take (o .answer .cells) (o .chain))
   pub long : length (take (o .answer .cells) (o .chain)) ≡ o .answer .cells
   pub rest : drop (o .answer .cells) (o .chain) ≡ drop (o .answer .cells) chain
   pub hold : o .answer .hold + openSlideIn h + 1 ≡ o .answer .newest + h .clock .n
 
--- of two different cells: L is the largest slide such that links of slides L to k chain them, and for as many further closings as
--- the hold says they stay joined if nothing is logged, and not for one more
+-- two different cells: L is the largest slide such that links of slides L to k chain them (RULES 5.1), and the two stay joined for
+-- as many further closings as the hold says if nothing is logged, and not for one more (RULES 5.5, 5.7)
 pub record DifferentCells (p : Implementation) (s : State) (h : History) (one other : ℕ) (answer : ChainAnswer) : Type 0 where
   pub chained : Chained (linksSince h (answer .newest)) one other
   pub largest : (l : ℕ) → answer .newest < l → Chained (linksSince h l) one other → ⊥
   pub few : answer .hold < h .clock .n
-  -- a closing raises k by one, even where no tick could still reach that slide
+  -- a closing raises k by one, even where no tick could still reach that slide (RULES 5.6)
   pub closings : (c : ℕ) → Chained (linksOf (windowAt h (openSlideIn h + c))) one other ↔ (c ≤ answer .hold)
-  -- where a tick does, the clock call with it and then joined answer the same
+  -- where a tick does reach it, joined gives the same answer after the clock call with that tick
   pub clocks : (c tick : ℕ) → slideOf (h .clock) tick ≡ openSlideIn h + c → notBefore (h .clock) tick ≡ true →
       (p .joinedGives (gives p s (clock tick) .book) one other .yes ≡ true) ↔ (c ≤ answer .hold)
 
--- for a cell and itself the chain is that one cell, L is taken as k + 1, and the hold is n, read as "always"
+-- for a cell and itself the chain is that one cell, L is taken as k + 1, and the hold is n, read as "always" (RULES 5.8)
 pub record Itself (h : History) (one : ℕ) (o : ChainOutcome) : Type 0 where
   pub newest : o .answer .newest ≡ openSlideIn h + 1
   pub hold : o .answer .hold ≡ h .clock .n
   pub cell : take (o .answer .cells) (o .chain) ≡ one ∷ []
 
--- for two cells and a chain buffer that has its places: 7 exactly when links of the current window do not chain the two,
--- otherwise 0; and joined says yes exactly when the chain call gives 0
+-- for two cells and a chain buffer that is long enough: 7 exactly when links of the current window do not chain the two (RULES
+-- 5.10), otherwise 0; and joined says yes exactly when the chain call gives 0
 pub record Answers (p : Implementation) (s : State) (h : History) (chain : List ℕ) (one other : ℕ) : Type 0 where
   pub no-trail : (givesChain p s chain one other .answer .number ≡ 7) ↔ (Chained (windowOf h) one other → ⊥)
   pub done : (givesChain p s chain one other .answer .number ≡ 0) ↔ Chained (windowOf h) one other
@@ -162,15 +166,15 @@ pub record Answers (p : Implementation) (s : State) (h : History) (chain : List 
       DifferentCells p s h one other (givesChain p s chain one other .answer)
   pub itself : one ≡ other → Itself h one (givesChain p s chain one other)
 
--- 3. chain: 6 exactly for a chain buffer that is too short, then 3 exactly where one is no cell, then 7 exactly where there is no
--- trail, and never 1 or 8; and what it answers
+-- 3. chain: the number is 6 for a chain buffer that is too short, else 3 where one of the two is no cell, else 7 where there is no
+-- trail, and never 1 or 8 (RULES 7.2, 7.8, 5.11); and what it answers
 pub record Chain (p : Implementation) : Type 0 where
-  pub number : (s : State) (cs : List Call) (h : History) → HasHistory s cs h → (chain : List ℕ) (one other : ℕ) →
-      givesChain p (after p s cs) chain one other .answer .number
+  pub number : AfterCalls p λ s h. (chain : List ℕ) (one other : ℕ) →
+      givesChain p s chain one other .answer .number
       ≡ firstOf
       (unless (has chainPlaces chain) 6
       ∷ unless (areCells one other) 3
       ∷ unless (chains (windowOf h) one other) 7
       ∷ [])
-  pub answers : (s : State) (cs : List Call) (h : History) → HasHistory s cs h → (chain : List ℕ) → has chainPlaces chain ≡ true →
-      (one other : ℕ) → areCells one other ≡ true → Answers p (after p s cs) h chain one other
+  pub answers : AfterCalls p λ s h. (chain : List ℕ) → has chainPlaces chain ≡ true → (one other : ℕ) → areCells one other ≡ true →
+      Answers p s h chain one other

@@ -4,3 +4,4 @@ pub mod Fakes
 pub mod History
 pub mod Implementation
 pub mod Single
+pub mod WindowIs

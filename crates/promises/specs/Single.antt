@@ -1,5 +1,5 @@
--- RULES 10: for each public contract, two results that it allows are equal. A result is
--- what the call returns and what its lent buffers hold afterwards, on refusal too. Each line below quotes a contract.
+-- One result (RULES 10.1, 10.2): for each public contract, two results that it allows are equal. A result is what the call returns
+-- and what its lent buffers hold afterwards, on refusal too. Each line below quotes a contract.
 use Prim.Native.Nat.{ℕ}
 use mathlib.Core.Path.{_≡_}
 use mathlib.Core.List.{List, _++_, reverse}
@@ -45,7 +45,8 @@ use Rattle.chain.specs.Chain.{GivesChain, chainOf}
 abbrev pub AtMostOne : {A : Type 0} → (A → Type 0) → Type 0
 AtMostOne {A} allowed = (r s : A) → allowed r → allowed s → r ≡ s
 
--- what a call over lent fields gives: its answer, then counts, forward parents and sizes, backward parents, sizes and labels, log
+-- what a call over lent fields gives: its answer, then counts, forward parents and sizes, backward parents, sizes and labels, and
+-- the log
 abbrev pub FieldsResult : Type 0
 FieldsResult = FieldsAnswer × List ℕ × List ℕ × List ℕ × List ℕ × List ℕ × List ℕ × List ℕ
 
@@ -53,13 +54,13 @@ abbrev pub FieldsGive : Outcome → FieldsResult → Type 0
 FieldsGive o r = GivesFields o (r .0) (r .1) (r .2) (r .3) (r .4) (r .5) (r .6) (r .7)
 
 pub record Single : Type 0 where
-  -- state
+  -- book_state
   pub never-opened : AtMostOne (λ r. r ≡ neverOpened)
   pub in-order : (clock : Clock) (mounting : ℕ) (counts fp fs bp bs bl : List ℕ) → AtMostOne (λ r. r ≡ inOrderOf clock mounting counts fp fs bp bs bl)
   pub spot : (clock : Clock) (slide : ℕ) → AtMostOne (λ r. r ≡ spotOf (halfOf (chunkOf clock slide)) (placeOf clock slide))
   pub stored : (clock : Clock) (counts : List ℕ) (slide : ℕ) → AtMostOne (λ r. r ≡ storedIn clock counts slide)
   pub clear : (places : List ℕ) (count : ℕ) → AtMostOne (λ r. r ≡ replicate count 0 ++ drop count places)
-  -- chunks
+  -- book_time
   pub freshen : AtMostOne {A = List ℕ × List ℕ × List ℕ × List ℕ × List ℕ} (λ r. Fresh (r .0) (r .1) (r .2) (r .3) (r .4))
   pub move-to : (clock : Clock) (counts fp fs bp bs bl log : List ℕ) (tick : ℕ) →
       AtMostOne {A = Clock × List ℕ × List ℕ × List ℕ × List ℕ × List ℕ × List ℕ}
@@ -72,7 +73,7 @@ pub record Single : Type 0 where
   pub fields-opening : (b : Book) (log : List ℕ) (s : Settings) → AtMostOne (FieldsGive (openingOf b log s))
   pub fields-link : (b : Book) (log : List ℕ) (tick one other : ℕ) → AtMostOne (FieldsGive (linkOf b log tick one other))
   pub fields-clock : (b : Book) (log : List ℕ) (tick : ℕ) → AtMostOne (FieldsGive (clockOf b log tick))
-  -- joined, by value and over lent fields
+  -- book_joined, by value and over lent fields
   pub joined : (b : Book) (one other : ℕ) → AtMostOne (λ r. r ≡ joinedOf b one other)
   -- window
   pub gather : (b : Book) (log ones others labels : List ℕ) →
@@ -80,22 +81,22 @@ pub record Single : Type 0 where
   pub grow : (ones others labels : List ℕ) (count : ℕ) (before : Arrays) →
       AtMostOne (λ r. r ≡ unitedAll before (reverse (linksIn ones others labels count)))
   pub highest-label : (parent label : List ℕ) (top one other : ℕ) → AtMostOne (λ r. r ≡ agreeFrom top parent label one other)
-  -- fewest
+  -- chain_fewest
   pub best-trail : (ones others : List ℕ) (one other : ℕ) (chain : List ℕ) →
       AtMostOne {A = ℕ × List ℕ} (λ r. Given (trailOf (linksOf ones others) one other) chain (r .0) (r .1))
-  -- trail
+  -- chain
   pub chain : (b : Book) (log chain : List ℕ) (one other : ℕ) →
       AtMostOne {A = ChainAnswer × List ℕ} (λ r. GivesChain (chainOf b log chain one other) (r .0) (r .1))
-  -- linkfile
+  -- file
   pub read : (file : List ℕ) → AtMostOne (λ r. r ≡ readOf file)
   pub write : (s : Settings) (records out : List ℕ) →
       AtMostOne {A = ℕ × List ℕ} (λ r. (r .0 ≡ writeNumber s (length records) (length out)) × (r .1 ≡ outputOf s records out))
   pub half-word : (bytes : List ℕ) (place : ℕ) → AtMostOne (λ r. r ≡ halfAt bytes place)
   pub word : (bytes : List ℕ) (place : ℕ) → AtMostOne (λ r. r ≡ wordAt bytes place)
-  -- playing
+  -- file_play
   pub play : (file : List ℕ) (m : ℕ) (b : Book) (log : List ℕ) →
       AtMostOne {A = Played × List ℕ} (λ r. Plays (playFrom file 0 m b log) (r .0) (r .1))
-  -- groups
+  -- window_groups
   pub of-window : (b : Book) (log : List ℕ) → AtMostOne (λ r. r ≡ groupsOf b log)
   -- text
   pub put-word : (word out : List ℕ) (at : ℕ) → AtMostOne {A = ℕ × List ℕ} (λ r. Written word at out (r .0) (r .1))
@@ -129,7 +130,7 @@ pub record Single : Type 0 where
   pub root : (parent : List ℕ) (limit cell : ℕ) → AtMostOne (λ r. r ≡ walkOf parent limit cell .root)
   pub roots : (parent : List ℕ) (limit : ℕ) → AtMostOne (λ r. r ≡ rootsOf parent limit 1024)
   pub roots-at : (parent label : List ℕ) (limit cut : ℕ) → AtMostOne (λ r. r ≡ rootsAtOf parent label limit cut 1024)
-  -- uniting
+  -- forest_unite
   pub merge-of-roots : (size : List ℕ) (a b : ℕ) → AtMostOne (λ r. r ≡ mergeOfRoots size a b)
   pub hang : (parent size : List ℕ) (limit one other : ℕ) → AtMostOne (λ r. r ≡ mergeOf parent size limit one other)
   pub merge-parents : (parent : List ℕ) (h : Merge) → AtMostOne (λ r. r ≡ mergedParents parent h)
@@ -138,13 +139,13 @@ pub record Single : Type 0 where
   pub unite : (parent size label : List ℕ) (limit place one other : ℕ) →
       AtMostOne {A = List ℕ × List ℕ × List ℕ}
       (λ r. United parent size label limit one other place (r .0) (r .1) (r .2))
-  -- soundness
+  -- forest_check
   pub sound : (parent size : List ℕ) (limit : ℕ) → AtMostOne (λ r. r ≡ soundOf parent size limit)
   pub all-within : (numbers : List ℕ) (low end : ℕ) → AtMostOne (λ r. r ≡ every (within low end) 0 numbers)
   pub labels-within : (label : List ℕ) (bound : ℕ) → AtMostOne (λ r. r ≡ labelsWithin label bound)
-  -- lists
+  -- buckets
   pub entry-at : (list : List ℕ) (place : ℕ) → AtMostOne (λ r. r ≡ getD list place 0)
   pub list-entries : (keys first : List ℕ) →
       AtMostOne {A = List ℕ × List ℕ} (λ r. lists.Listed keys (length first) 0 (r .0) (r .1))
-  -- crossing
+  -- forest_cross
   pub joined-across : (backward forward : List ℕ) (one other : ℕ) → AtMostOne (JoinedAcross backward forward one other)

@@ -15,7 +15,7 @@ use native.Mathlib.Omega.{arith}
 use Rattle.settings.specs.Settings.{takenNumber}
 use Rattle.settings.specs.declared.Settings.{Settings}
 use Rattle.slides.specs.declared.Clock.{Clock}
-use Rattle.slides.specs.Clock.{notBefore, slideOf, openSlide, chunkOf, placeOf, started, movedTo, clockInRange}
+use Rattle.slides.specs.Clock.{notBefore, slideOf, slideLimit, openSlide, chunkOf, placeOf, started, movedTo, clockInRange}
 
 -- ---- the clock and its ticks
 
@@ -80,13 +80,13 @@ module _ (clock : Clock) (tick : ℕ) where
   unfolding movedTo slideOf
   moved-slide e = rw e
 
-  -- so the slide after it, and the first slide of its chunk, are 64-bit numbers
-  pub slide-below : tick < 2 ^ 32 → slideOf clock tick < 2 ^ 32
+  -- a slide is below the limit; so the slide after it, and the first slide of its chunk, are 64-bit numbers
+  pub slide-fits : tick < 2 ^ 32 → slideOf clock tick < slideLimit
   unfolding slideOf
-  slide-below fits = lt-of-le-of-lt (le-trans (div-le-self (tick - clock .t0) (clock .b)) (sub-le tick (clock .t0))) fits
+  slide-fits fits = lt-of-le-of-lt (le-trans (div-le-self (tick - clock .t0) (clock .b)) (sub-le tick (clock .t0))) fits
 
--- the last slide of all: slides of one tick, from 0 to the last tick
-pub slide-last : (time n : ℕ) (pad : List ℕ) → slideOf (record { t0 = 0; b = 1; time = time; n = n; pad = pad }) 4294967295 ≡ 4294967295
+-- and none lower would do: where slides are one tick long from tick 0 on, the slide of the last tick is the one before the limit
+pub slide-last : (time n : ℕ) (pad : List ℕ) → slideOf (record { t0 = 0; b = 1; time = time; n = n; pad = pad }) (2 ^ 32 - 1) + 1 ≡ slideLimit
 unfolding slideOf
 slide-last time n pad = refl
 

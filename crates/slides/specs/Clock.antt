@@ -1,7 +1,7 @@
 -- The clock of a book, and what follows from it: slides, chunks, places (RULES 2 and 3).
 --
 -- Every definition is total. A slide of 0 ticks and a window of 0 slides, which no book holds, give 0.
-use Prim.Native.Nat.{ℕ, _-_, _/_, _%_}
+use Prim.Native.Nat.{ℕ, _-_, _/_, _^_, _%_}
 use mathlib.Core.Bool.{Bool, cond, _&&_}
 use lib.Dec.{eqb, leb}
 use lib.ListN.{replicate}
@@ -17,6 +17,10 @@ notBefore clock tick = leb (clock .time) tick
 -- slide of a tick = (tick - T0) div B
 unfoldable pub slideOf : (clock : Clock) (tick : Tick) → Slide
 slideOf clock tick = (tick - clock .t0) / clock .b
+
+-- every slide is below this limit (RULES 2.14): ticks have 32 bits, and a slide is not above its tick
+abbrev pub slideLimit : ℕ
+slideLimit = 2 ^ 32
 
 -- the open slide k is the slide of the latest time
 abbrev pub openSlide : Clock → ℕ

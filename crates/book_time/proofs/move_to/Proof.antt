@@ -6,8 +6,8 @@ use native.Mathlib.Omega.{arith}
 use native.Mathlib.Nat.{div-le-self}
 use borrow.Author.Needs.{needs}
 use Rattle.cells.specs.declared.Fitting.{Fitting}
-use Rattle.slides.specs.Clock.{openSlide, chunkOf}
-use Rattle.slides.proofs.Slides.{slide-below}
+use Rattle.slides.specs.Clock.{slideLimit, openSlide, chunkOf}
+use Rattle.slides.proofs.Slides.{slide-fits}
 use Rattle.book_state.specs.declared.Book.{Book}
 use Rattle.book_state.specs.Order.{bookOf}
 use Rattle.book_time.specs.Time.{cleared, emptied, stayed, turned}
@@ -30,9 +30,9 @@ before c fitting = c .before .before .before .chunk .ensures ∙ ap (chunkOf (en
 after : (c : tie.After-advanced) (fitting : Fitting) → c .before .chunk2 .result ≡ chunkAfter (book (entry c) fitting) (entry c .args .tick)
 after c fitting = c .before .chunk2 .ensures ∙ ap (chunkOf (entry c .args .clock)) (c .before .before .slide .ensures)
 
--- a slide has 32 bits
-small : (c : tie.After-advanced) → openSlide (entry c .args .clock) < 4294967296
-small c = slide-below (entry c .args .clock) (entry c .args .clock .time) (search needs)
+-- a slide is below its limit
+small : (c : tie.After-advanced) → openSlide (entry c .args .clock) < slideLimit
+small c = slide-fits (entry c .args .clock) (entry c .args .clock .time) (search needs)
 
 open-slide-requires : tie.Need-open-slide-requires
 open-slide-requires c κs = search needs
