@@ -2,6 +2,7 @@
 use super::checks;
 use book_state::order;
 use book_state::spots;
+use forest::PLACES;
 use settings::Settings;
 ghost use mathlib.Core.Path.{_≡_};
 ghost use mathlib.Core.List.{List};
@@ -22,11 +23,11 @@ pub fn link(
     clock: slides::Clock,
     mounting: u8,
     counts: &mut [u16; 32],
-    forward_parent: &mut [u16; 1024],
-    forward_size: &mut [u16; 1024],
-    backward_parent: &mut [u16; 1024],
-    backward_size: &mut [u16; 1024],
-    backward_label: &mut [u8; 1024],
+    forward_parent: &mut [u16; PLACES],
+    forward_size: &mut [u16; PLACES],
+    backward_parent: &mut [u16; PLACES],
+    backward_size: &mut [u16; PLACES],
+    backward_label: &mut [u8; PLACES],
     log: &mut [u16],
     tick: u32,
     one: u16,
@@ -86,8 +87,8 @@ pub fn link(
 fn store(
     clock: slides::Clock,
     counts: &mut [u16; 32],
-    forward_parent: &mut [u16; 1024],
-    forward_size: &mut [u16; 1024],
+    forward_parent: &mut [u16; PLACES],
+    forward_size: &mut [u16; PLACES],
     log: &mut [u16],
     one: u16,
     other: u16,
@@ -111,11 +112,11 @@ pub fn clock(
     clock: slides::Clock,
     mounting: u8,
     counts: &mut [u16; 32],
-    forward_parent: &mut [u16; 1024],
-    forward_size: &mut [u16; 1024],
-    backward_parent: &mut [u16; 1024],
-    backward_size: &mut [u16; 1024],
-    backward_label: &mut [u8; 1024],
+    forward_parent: &mut [u16; PLACES],
+    forward_size: &mut [u16; PLACES],
+    backward_parent: &mut [u16; PLACES],
+    backward_size: &mut [u16; PLACES],
+    backward_label: &mut [u8; PLACES],
     log: &[u16],
     tick: u32,
 ) -> FieldsAnswer
@@ -162,11 +163,11 @@ pub fn opening(
     clock: slides::Clock,
     mounting: u8,
     counts: &mut [u16; 32],
-    forward_parent: &mut [u16; 1024],
-    forward_size: &mut [u16; 1024],
-    backward_parent: &mut [u16; 1024],
-    backward_size: &mut [u16; 1024],
-    backward_label: &mut [u8; 1024],
+    forward_parent: &mut [u16; PLACES],
+    forward_size: &mut [u16; PLACES],
+    backward_parent: &mut [u16; PLACES],
+    backward_size: &mut [u16; PLACES],
+    backward_label: &mut [u8; PLACES],
     log: &mut [u16],
     s: Settings,
 ) -> FieldsAnswer

@@ -8,6 +8,7 @@ use book_joined::JoinedAnswer;
 use book_state::Book;
 use chain::ChainAnswer;
 use file::Reading;
+use forest::PLACES;
 use listing::Listed;
 use settings::Settings;
 use slides::Clock;
@@ -34,11 +35,11 @@ pub extern "C" fn kerb_lent_opening(
     clock: Clock,
     mounting: u8,
     counts: &mut [u16; 32],
-    forward_parent: &mut [u16; 1024],
-    forward_size: &mut [u16; 1024],
-    backward_parent: &mut [u16; 1024],
-    backward_size: &mut [u16; 1024],
-    backward_label: &mut [u8; 1024],
+    forward_parent: &mut [u16; PLACES],
+    forward_size: &mut [u16; PLACES],
+    backward_parent: &mut [u16; PLACES],
+    backward_size: &mut [u16; PLACES],
+    backward_label: &mut [u8; PLACES],
     log: &mut [u16],
     s: Settings,
 ) -> FieldsAnswer
@@ -64,11 +65,11 @@ pub extern "C" fn kerb_lent_link(
     clock: Clock,
     mounting: u8,
     counts: &mut [u16; 32],
-    forward_parent: &mut [u16; 1024],
-    forward_size: &mut [u16; 1024],
-    backward_parent: &mut [u16; 1024],
-    backward_size: &mut [u16; 1024],
-    backward_label: &mut [u8; 1024],
+    forward_parent: &mut [u16; PLACES],
+    forward_size: &mut [u16; PLACES],
+    backward_parent: &mut [u16; PLACES],
+    backward_size: &mut [u16; PLACES],
+    backward_label: &mut [u8; PLACES],
     log: &mut [u16],
     tick: u32,
     one: u16,
@@ -98,11 +99,11 @@ pub extern "C" fn kerb_lent_clock(
     clock: Clock,
     mounting: u8,
     counts: &mut [u16; 32],
-    forward_parent: &mut [u16; 1024],
-    forward_size: &mut [u16; 1024],
-    backward_parent: &mut [u16; 1024],
-    backward_size: &mut [u16; 1024],
-    backward_label: &mut [u8; 1024],
+    forward_parent: &mut [u16; PLACES],
+    forward_size: &mut [u16; PLACES],
+    backward_parent: &mut [u16; PLACES],
+    backward_size: &mut [u16; PLACES],
+    backward_label: &mut [u8; PLACES],
     log: &[u16],
     tick: u32,
 ) -> FieldsAnswer
@@ -128,11 +129,11 @@ pub extern "C" fn kerb_lent_joined<'a>(
     clock: Clock,
     mounting: u8,
     counts: &'a [u16; 32],
-    forward_parent: &'a [u16; 1024],
-    forward_size: &'a [u16; 1024],
-    backward_parent: &'a [u16; 1024],
-    backward_size: &'a [u16; 1024],
-    backward_label: &'a [u8; 1024],
+    forward_parent: &'a [u16; PLACES],
+    forward_size: &'a [u16; PLACES],
+    backward_parent: &'a [u16; PLACES],
+    backward_size: &'a [u16; PLACES],
+    backward_label: &'a [u8; PLACES],
     one: u16,
     other: u16,
 ) -> JoinedAnswer
