@@ -3,6 +3,7 @@ use super::checks;
 use book_state::order;
 use book_state::spots;
 use cells::Fitting;
+use forest::PLACES;
 use settings::Settings;
 ghost use mathlib.Core.Path.{_≡_};
 ghost use mathlib.Core.List.{List};
@@ -24,11 +25,11 @@ pub fn link(
     clock: slides::Clock,
     fitting: Fitting,
     counts: &mut [u16; 32],
-    forward_parent: &mut [u16; 1024],
-    forward_size: &mut [u16; 1024],
-    backward_parent: &mut [u16; 1024],
-    backward_size: &mut [u16; 1024],
-    backward_label: &mut [u8; 1024],
+    forward_parent: &mut [u16; PLACES],
+    forward_size: &mut [u16; PLACES],
+    backward_parent: &mut [u16; PLACES],
+    backward_size: &mut [u16; PLACES],
+    backward_label: &mut [u8; PLACES],
     log: &mut [u16],
     tick: u32,
     one: u16,
@@ -88,8 +89,8 @@ pub fn link(
 fn store(
     clock: slides::Clock,
     counts: &mut [u16; 32],
-    forward_parent: &mut [u16; 1024],
-    forward_size: &mut [u16; 1024],
+    forward_parent: &mut [u16; PLACES],
+    forward_size: &mut [u16; PLACES],
     log: &mut [u16],
     one: u16,
     other: u16,
@@ -113,11 +114,11 @@ pub fn clock(
     clock: slides::Clock,
     fitting: Fitting,
     counts: &mut [u16; 32],
-    forward_parent: &mut [u16; 1024],
-    forward_size: &mut [u16; 1024],
-    backward_parent: &mut [u16; 1024],
-    backward_size: &mut [u16; 1024],
-    backward_label: &mut [u8; 1024],
+    forward_parent: &mut [u16; PLACES],
+    forward_size: &mut [u16; PLACES],
+    backward_parent: &mut [u16; PLACES],
+    backward_size: &mut [u16; PLACES],
+    backward_label: &mut [u8; PLACES],
     log: &[u16],
     tick: u32,
 ) -> FieldsAnswer
@@ -164,11 +165,11 @@ pub fn opening(
     clock: slides::Clock,
     fitting: Fitting,
     counts: &mut [u16; 32],
-    forward_parent: &mut [u16; 1024],
-    forward_size: &mut [u16; 1024],
-    backward_parent: &mut [u16; 1024],
-    backward_size: &mut [u16; 1024],
-    backward_label: &mut [u8; 1024],
+    forward_parent: &mut [u16; PLACES],
+    forward_size: &mut [u16; PLACES],
+    backward_parent: &mut [u16; PLACES],
+    backward_size: &mut [u16; PLACES],
+    backward_label: &mut [u8; PLACES],
     log: &mut [u16],
     s: Settings,
 ) -> FieldsAnswer

@@ -1,6 +1,7 @@
 // The joined call: four walks, always all four; and where neither forest alone decides, the crossing.
 use book_state::Book;
 use book_state::order;
+use forest::PLACES;
 use forest::walks;
 use cells::Fitting;
 use slides::Clock;
@@ -48,11 +49,11 @@ pub fn over_fields<'a>(
     clock: Clock,
     fitting: Fitting,
     counts: &'a [u16; 32],
-    forward_parent: &'a [u16; 1024],
-    forward_size: &'a [u16; 1024],
-    backward_parent: &'a [u16; 1024],
-    backward_size: &'a [u16; 1024],
-    backward_label: &'a [u8; 1024],
+    forward_parent: &'a [u16; PLACES],
+    forward_size: &'a [u16; PLACES],
+    backward_parent: &'a [u16; PLACES],
+    backward_size: &'a [u16; PLACES],
+    backward_label: &'a [u8; PLACES],
     one: u16,
     other: u16,
 ) -> JoinedAnswer

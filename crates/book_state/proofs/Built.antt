@@ -35,8 +35,8 @@ each-reverse ps = each-onto ps empty
 
 module _ (ps ss : List ℕ) {xs : List Labelled} (long : (length ps ≡ cells) × (length ss ≡ cells))
     (parents : parentIn ps ≡ forestOf stepLimit xs .parent) (sizes : sizeIn ss ≡ forestOf stepLimit xs .size) (below : EndsBelow cells xs) where
-  enough : 10 ≤ stepLimit
-  enough = le-refl 10
+  enough : stepLimit ≤ stepLimit
+  enough = le-refl stepLimit
 
   pub forest-ranged : Ranged cells ps ss
   forest-ranged =
@@ -98,7 +98,7 @@ module _ (x : Labelled) {xs : List Labelled} {a : Arrays} (cell : (x .link .one 
   ranged-more =
       ranged-unite (a .parents) (a .sizes) (a .labels) (x .label) ranged (omega arith) (each (on .labels-long)) stepLimit (x .link)
       (cell .0) (cell .1)
-      (λ c l. subst⁻¹ (λ (f : Forest). f .size c ≤ cells) as-forest (size-bounded (le-refl 10) (also cell ends) c))
+      (λ c l. subst⁻¹ (λ (f : Forest). f .size c ≤ cells) as-forest (size-bounded (le-refl stepLimit) (also cell ends) c))
 
   pub holds-more : Holds (x ∷ xs) (united a x)
   unfolding united

@@ -1,16 +1,19 @@
--- A labelled forest in three lists, and links united into it one after the other (RULES 3). With 1,024 cells a walk takes at most 10 steps.
+-- How many cells a book has, and how many steps a walk takes at most; a labelled forest in three lists, and links united into it
+-- one after the other (RULES 3).
 use Prim.Native.Nat.{ℕ}
 use mathlib.Core.List.{List, [], _∷_}
 use Rattle.numbers.specs.Kinds.{Label, Labels, Parents, Sizes}
 use Rattle.graph.specs.Forest.{Labelled}
-use Rattle.forest.specs.Arrays.{freshParents, freshSizes, freshLabels}
+use Rattle.forest.specs.Arrays.{places, freshParents, freshSizes, freshLabels}
 use Rattle.forest_unite.specs.United.{mergeOf, mergedParents, mergedSizes, mergedLabels}
 use Rattle.forest_unite.specs.declared.Merge.{Merge}
 
+-- the cells of a book. They are as many as trees of doubled sizes allow within the steps of a walk, and an array has a place for
+-- each of them (proofs/Cells.antt)
 abbrev pub cells : ℕ
 cells = 1024
 
--- the steps of a walk, at most
+-- the most steps of a walk that number 1 allows
 abbrev pub stepLimit : ℕ
 stepLimit = 10
 
@@ -24,7 +27,7 @@ arraysOf parents sizes labels = record { parents = parents; sizes = sizes; label
 
 -- each cell its own root, of size 1
 abbrev pub freshArrays : Arrays
-freshArrays = record { parents = freshParents cells; sizes = freshSizes cells; labels = freshLabels cells }
+freshArrays = record { parents = freshParents places; sizes = freshSizes places; labels = freshLabels places }
 
 abbrev pub mergedArrays : (arrays : Arrays) (label : Label) (merge : Merge) → Arrays
 mergedArrays a label h = record { parents = mergedParents (a .parents) h; sizes = mergedSizes (a .sizes) h; labels = mergedLabels (a .labels) h label }

@@ -1,4 +1,4 @@
--- Number 1 (RULES 7): whether a book's fields are in their ranges and its walks within 10
+-- Number 1 (RULES 7): whether a book's fields are in their ranges and its walks within their
 -- steps. A book that was never opened is out of range: its n is 0.
 use Prim.Native.Nat.{ℕ}
 use mathlib.Core.Bool.{Bool, _&&_}
@@ -9,9 +9,10 @@ use Rattle.cells.specs.declared.Fitting.{Fitting}
 use Rattle.settings.specs.Settings.{heldInRange}
 use Rattle.slides.specs.Clock.{clockInRange}
 use Rattle.slides.specs.declared.Clock.{Clock}
+use Rattle.forest.specs.Arrays.{places}
 use Rattle.forest_check.specs.Sound.{every, within, soundOf, labelsWithin}
 use Rattle.book_state.specs.declared.Book.{Book}
-use Rattle.book_state.specs.Arrays.{cells, stepLimit}
+use Rattle.book_state.specs.Arrays.{stepLimit}
 
 -- the book of these fields
 abbrev pub bookOf : (clock : Clock) (fitting : Fitting) (counts : Counts) (forwardParent : Parents) (forwardSize : Sizes) (backwardParent : Parents) (backwardSize : Sizes) (backwardLabel : Labels) → Book
@@ -45,12 +46,12 @@ inOrder b =
 unfoldable pub neverOpened : Book
 neverOpened =
     record {
-      «forward_parent» = replicate cells 0;
-      «forward_size» = replicate cells 0;
-      «backward_parent» = replicate cells 0;
-      «backward_size» = replicate cells 0;
+      «forward_parent» = replicate places 0;
+      «forward_size» = replicate places 0;
+      «backward_parent» = replicate places 0;
+      «backward_size» = replicate places 0;
       counts = replicate 32 0;
       clock = record { t0 = 0; b = 0; time = 0; n = 0; pad = replicate 3 0 };
-      «backward_label» = replicate cells 0;
+      «backward_label» = replicate places 0;
       fitting = record { mounting = 0; pad = replicate 3 0 };
     }

@@ -3,6 +3,7 @@
 pub mod order; // order.rt: number 1, whether a book's fields are in their ranges and its walks within their steps
 pub mod spots; // spots.rt: where the links of a slide are counted and logged
 
+use forest::PLACES;
 ghost use mathlib.Core.Path.{_≡_};
 ghost use Rattle.book_state.specs.Order.{neverOpened};
 
@@ -10,15 +11,15 @@ ghost use Rattle.book_state.specs.Order.{neverOpened};
 #[repr(C)]
 pub struct Book {
     // forward forest of the open chunk
-    pub forward_parent: [u16; 1024],
-    pub forward_size: [u16; 1024],
+    pub forward_parent: [u16; PLACES],
+    pub forward_size: [u16; PLACES],
     // backward forest of the chunk before
-    pub backward_parent: [u16; 1024],
-    pub backward_size: [u16; 1024],
+    pub backward_parent: [u16; PLACES],
+    pub backward_size: [u16; PLACES],
     // links stored, at half * 16 + place; half = chunk mod 2
     pub counts: [u16; 32],
     pub clock: slides::Clock,
-    pub backward_label: [u8; 1024],
+    pub backward_label: [u8; PLACES],
     pub fitting: cells::Fitting,
 }
 
@@ -38,13 +39,13 @@ pub fn never_opened() -> Book
         pad: [0; 3],
     };
     Book {
-        forward_parent: [0; 1024],
-        forward_size: [0; 1024],
-        backward_parent: [0; 1024],
-        backward_size: [0; 1024],
+        forward_parent: [0; PLACES],
+        forward_size: [0; PLACES],
+        backward_parent: [0; PLACES],
+        backward_size: [0; PLACES],
         counts: [0; 32],
         clock,
-        backward_label: [0; 1024],
+        backward_label: [0; PLACES],
         fitting,
     }
 }

@@ -1,6 +1,7 @@
 // The step of time: within a chunk nothing else changes; into the next chunk the backward forest is built from the chunk
 // that ends; further, nothing is left.
 use book_state::spots;
+use forest::PLACES;
 use slides::Clock;
 ghost use mathlib.Core.Path.{_≡_};
 ghost use mathlib.Core.List.{map, []};
@@ -14,11 +15,11 @@ ghost use Rattle.book_time.specs.Time.{cleared, Fresh, movedBook};
 
 // Each cell its own root again, in both forests.
 pub fn freshen(
-    forward_parent: &mut [u16; 1024],
-    forward_size: &mut [u16; 1024],
-    backward_parent: &mut [u16; 1024],
-    backward_size: &mut [u16; 1024],
-    backward_label: &mut [u8; 1024],
+    forward_parent: &mut [u16; PLACES],
+    forward_size: &mut [u16; PLACES],
+    backward_parent: &mut [u16; PLACES],
+    backward_size: &mut [u16; PLACES],
+    backward_label: &mut [u8; PLACES],
 )
     ensures { λ _. ⌜ Fresh (now («forward_parent» .exit)) (now («forward_size» .exit)) (now («backward_parent» .exit)) (now («backward_size» .exit)) (now («backward_label» .exit)) ⌝ }
 {
@@ -33,11 +34,11 @@ pub fn freshen(
 pub fn move_to(
     clock: Clock,
     counts: &mut [u16; 32],
-    forward_parent: &mut [u16; 1024],
-    forward_size: &mut [u16; 1024],
-    backward_parent: &mut [u16; 1024],
-    backward_size: &mut [u16; 1024],
-    backward_label: &mut [u8; 1024],
+    forward_parent: &mut [u16; PLACES],
+    forward_size: &mut [u16; PLACES],
+    backward_parent: &mut [u16; PLACES],
+    backward_size: &mut [u16; PLACES],
+    backward_label: &mut [u8; PLACES],
     log: &[u16],
     tick: u32,
 ) -> Clock
@@ -92,9 +93,9 @@ fn unite_chunk<'a>(
     log: &'a [u16],
     half: usize,
     n: u8,
-    parent: &mut [u16; 1024],
-    size: &mut [u16; 1024],
-    label: &mut [u8; 1024],
+    parent: &mut [u16; PLACES],
+    size: &mut [u16; PLACES],
+    label: &mut [u8; PLACES],
 )
     requires { ⌜ half < 2 ⌝ }
     requires { ⌜ Readable n (now counts) (now log) ⌝ }
@@ -122,9 +123,9 @@ fn unite_place(
     start: usize,
     count: usize,
     place: u8,
-    parent: &mut [u16; 1024],
-    size: &mut [u16; 1024],
-    label: &mut [u8; 1024],
+    parent: &mut [u16; PLACES],
+    size: &mut [u16; PLACES],
+    label: &mut [u8; PLACES],
 )
     requires { ⌜ start + 2 * count ≤ length (now log) ⌝ }
     ensures { λ _. ⌜ arraysOf (now (parent .exit)) (now (size .exit)) (now (label .exit)) ≡ unitedAll (arraysOf (now (parent .entry)) (now (size .entry)) (now (label .entry))) (map (labelled place) (linksAt (now (log .entry)) start count)) ⌝ }
@@ -142,9 +143,9 @@ fn unite_pair(
     one: u16,
     other: u16,
     place: u8,
-    parent: &mut [u16; 1024],
-    size: &mut [u16; 1024],
-    label: &mut [u8; 1024],
+    parent: &mut [u16; PLACES],
+    size: &mut [u16; PLACES],
+    label: &mut [u8; PLACES],
 )
     ensures { λ _. ⌜ arraysOf (now (parent .exit)) (now (size .exit)) (now (label .exit)) ≡ unitedAll (arraysOf (now (parent .entry)) (now (size .entry)) (now (label .entry))) (map (labelled place) (keep (record { one = one; other = other }) [])) ⌝ }
 {

@@ -7,6 +7,7 @@ use mathlib.Core.List.{List}
 use lib.ListN.{length, getD, take, replicate, length-replicate}
 use lib.Seq.{length-take-le}
 use borrow.Author.Tests.{le-leb, lt-leb}
+use Rattle.forest.specs.Arrays.{places}
 use Rattle.graph.specs.Trail.{trailOf}
 use Rattle.graph.proofs.Trails.{trail-one}
 use Rattle.graph.proofs.Finder.{trailOf-best}
@@ -28,8 +29,8 @@ all-blank (suc cells) (suc c) = all-blank cells c
 pub both-ways :
     {ones others firstOne nextOne firstOther nextOther chain : List ℕ} {one other : ℕ} →
     Asked ones others one other chain →
-    Listed ones 1024 0 firstOne nextOne →
-    Listed others 1024 0 firstOther nextOther → BothWays 1024 ones others firstOne nextOne firstOther nextOther
+    Listed ones places 0 firstOne nextOne →
+    Listed others places 0 firstOther nextOther → BothWays places ones others firstOne nextOne firstOther nextOther
 both-ways a forth back =
     record {
       forth = record { even = a .even; across = a .othersInside; listed = forth };
@@ -44,9 +45,9 @@ module _
     -- the trail is written where it is not too long
     pub may-descend :
         {firstOne nextOne firstOther nextOther : List ℕ} →
-        BothWays 1024 ones others firstOne nextOne firstOther nextOther →
-        length remaining ≡ 1024 →
-        getD remaining one 0 ≤ 1024 → DescentReady ones others firstOne nextOne firstOther nextOther remaining one other chain
+        BothWays places ones others firstOne nextOne firstOther nextOther →
+        length remaining ≡ places →
+        getD remaining one 0 ≤ places → DescentReady ones others firstOne nextOne firstOther nextOther remaining one other chain
     may-descend lists size fits =
         record {
           few = omega (arith, size);
@@ -61,11 +62,11 @@ module _
     trail = trailOf (linksOf ones others) one other
 
     pub gives-written :
-        getD remaining one 0 ≤ 1024 →
+        getD remaining one 0 ≤ places →
         {after : List ℕ} → after ≡ written trail chain → Given trail chain (getD remaining one 0) after
     gives-written fits e =
-        record { count = k .counts one; buffer = rw (le-leb (length trail) 1024 (rw (k .counts one) at fits)) e }
+        record { count = k .counts one; buffer = rw (le-leb (length trail) places (rw (k .counts one) at fits)) e }
 
-    pub gives-unwritten : 1024 < getD remaining one 0 → Given trail chain (getD remaining one 0) chain
+    pub gives-unwritten : places < getD remaining one 0 → Given trail chain (getD remaining one 0) chain
     gives-unwritten long =
-        record { count = k .counts one; buffer = rw (lt-leb (length trail) 1024 (rw (k .counts one) at long)) }
+        record { count = k .counts one; buffer = rw (lt-leb (length trail) places (rw (k .counts one) at long)) }

@@ -9,6 +9,7 @@ use mathlib.Core.List.{List, [], _∷_}
 use mathlib.Core.Logic.{inr, ⊎-elim}
 use lib.ListN.{length, getD, set, replicate, length-set, length-replicate}
 use lib.Seq.{getD-set-same, getD-set-other}
+use Rattle.forest.specs.Arrays.{places}
 use Rattle.graph.specs.Link.{Link, Linked}
 use Rattle.graph.specs.Trail.{arrive}
 use Rattle.chain_fewest.specs.Lists.{linksOf, BothWays}
@@ -85,24 +86,24 @@ pub record Counting
     (ones others firstOne nextOne firstOther nextOther : List ℕ) (other : ℕ) (remaining queue : List ℕ) (head tail : ℕ) :
     Type 0
   where
-    pub lists : BothWays 1024 ones others firstOne nextOne firstOther nextOther
-    pub size : length remaining ≡ 1024
+    pub lists : BothWays places ones others firstOne nextOne firstOther nextOther
+    pub size : length remaining ≡ places
     pub searching : Searching (linksOf ones others) other remaining queue head tail
 
 pub counting-begins :
     {ones others firstOne nextOne firstOther nextOther : List ℕ} (remaining : List ℕ) {other : ℕ} →
-    other < 1024 →
+    other < places →
     Blank remaining →
-    length remaining ≡ 1024 →
-    BothWays 1024 ones others firstOne nextOne firstOther nextOther →
-    Counting ones others firstOne nextOne firstOther nextOther other (set remaining other 1) (set (replicate 1024 0) 0 other) 0 1
+    length remaining ≡ places →
+    BothWays places ones others firstOne nextOne firstOther nextOther →
+    Counting ones others firstOne nextOne firstOther nextOther other (set remaining other 1) (set (replicate places 0) 0 other) 0 1
 counting-begins {ones} {others} remaining {other} inside blank size lists =
     record {
       lists = lists;
       size = simp length-set size;
       searching =
-          search-begins (linksOf ones others) remaining (replicate 1024 0) other (omega arith) blank
-          (length-replicate {A = ℕ} 1024 0 ∙ sym size);
+          search-begins (linksOf ones others) remaining (replicate places 0) other (omega arith) blank
+          (length-replicate {A = ℕ} places 0 ∙ sym size);
     }
 
 module _
@@ -110,7 +111,7 @@ module _
     (s : Counting ones others firstOne nextOne firstOther nextOther other remaining queue head tail)
     (some : head < tail)
   where
-    pub queue-left : head < 1024
+    pub queue-left : head < places
     queue-left = omega (arith, s .searching .room, s .size)
 
     -- first the links are read from the one side

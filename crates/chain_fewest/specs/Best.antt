@@ -5,23 +5,24 @@ use mathlib.Core.Bool.{cond}
 use mathlib.Core.List.{List}
 use lib.Dec.{leb}
 use lib.ListN.{length}
+use Rattle.forest.specs.Arrays.{places}
 use Rattle.graph.specs.Link.{Chained}
 use Rattle.buckets.specs.Listed.{AllBelow}
 use Rattle.chain_fewest.specs.Lists.{linksOf}
 use Rattle.chain_fewest.specs.Descent.{written}
 
--- at most 4,096 links between 1,024 cells, which chain the two, and a buffer of 1,024 places
+-- at most 4,096 links between cells that have a place in an array of cells, which chain the two, and a buffer as long as such an array
 pub record Asked (ones others : List ℕ) (one other : ℕ) (chain : List ℕ) : Type 0 where
   pub few : length ones ≤ 4096
   pub even : length others ≡ length ones
-  pub onesInside : AllBelow 1024 ones
-  pub othersInside : AllBelow 1024 others
-  pub oneInside : one < 1024
-  pub otherInside : other < 1024
-  pub room : 1024 ≤ length chain
+  pub onesInside : AllBelow places ones
+  pub othersInside : AllBelow places others
+  pub oneInside : one < places
+  pub otherInside : other < places
+  pub room : places ≤ length chain
   pub chained : Chained (linksOf ones others) one other
 
--- the number of its cells, and the buffer afterwards; a trail of more than 1,024 cells is not written
+-- the number of its cells, and the buffer afterwards; a trail of more cells than such an array has places is not written
 pub record Given (cs chain : List ℕ) (cells : ℕ) (after : List ℕ) : Type 0 where
   pub count : cells ≡ length cs
-  pub buffer : after ≡ cond (leb (length cs) 1024) (written cs chain) chain
+  pub buffer : after ≡ cond (leb (length cs) places) (written cs chain) chain

@@ -1,9 +1,11 @@
 // How many cells the best trail from each cell to the second cell has: found from the second cell on, level by level, in
 // time linear in cells and links, since each cell enters the queue once and its links are walked once.
 use buckets::entry_at;
+use forest::PLACES;
 ghost use mathlib.Core.Path.{_≡_};
 ghost use Prim.Native.Nat.{_<_};
 ghost use lib.ListN.{length};
+ghost use Rattle.forest.specs.Arrays.{places};
 ghost use Rattle.chain_fewest.specs.Lists.{linksOf, BothWays};
 ghost use Rattle.chain_fewest.specs.Levels.{Counted, Blank, Ready, Reached};
 
@@ -51,14 +53,14 @@ pub fn count_cells(
     other: u16,
     remaining: &mut [u16],
 )
-    requires inside { ⌜ other < 1024 ⌝ }
-    requires size { ⌜ length (now remaining) ≡ 1024 ⌝ }
+    requires inside { ⌜ other < places ⌝ }
+    requires size { ⌜ length (now remaining) ≡ places ⌝ }
     requires blank { ⌜ Blank (now remaining) ⌝ }
-    requires lists { ⌜ BothWays 1024 (now ones) (now others) (now «first_one») (now «next_one») (now «first_other»)
+    requires lists { ⌜ BothWays places (now ones) (now others) (now «first_one») (now «next_one») (now «first_other»)
         (now «next_other») ⌝ }
     ensures { λ _. ⌜ Counted (linksOf (now (ones .entry)) (now (others .entry))) other (now (remaining .exit)) ⌝ }
 {
-    let mut queue = [0u16; 1024];
+    let mut queue = [0u16; PLACES];
     queue[0] = other;
     remaining[other as usize] = 1;
     let mut head = 0;

@@ -6,7 +6,9 @@ mod levels; // levels.rt: how many cells lead on from each cell
 
 use buckets::list_entries;
 use descent::descend;
+use forest::PLACES;
 use levels::count_cells;
+ghost use Rattle.forest.specs.Arrays.{places};
 ghost use Rattle.graph.specs.Trail.{trailOf};
 ghost use Rattle.chain_fewest.specs.Lists.{linksOf, BothWays};
 ghost use Rattle.chain_fewest.specs.Best.{Asked, Given};
@@ -22,11 +24,11 @@ pub fn best_trail(ones: &[u16], others: &[u16], one: u16, other: u16, chain: &mu
     // The number of links ends a list: to begin with, all are empty.
     let links = ones.len();
     let end = links as u16;
-    let mut first_one = [end; 1024];
+    let mut first_one = [end; PLACES];
     let mut places_one = [0u16; 4096];
     let next_one = &mut places_one[..links];
     list_entries(ones, &mut first_one, next_one);
-    let mut first_other = [end; 1024];
+    let mut first_other = [end; PLACES];
     let mut places_other = [0u16; 4096];
     let next_other = &mut places_other[..links];
     list_entries(others, &mut first_other, next_other);
@@ -56,13 +58,13 @@ fn trail_over(
     chain: &mut [u16],
 ) -> u16
     requires asked { ⌜ Asked (now ones) (now others) one other (now chain) ⌝ }
-    requires lists { ⌜ BothWays 1024 (now ones) (now others) (now «first_one») (now «next_one») (now «first_other»)
+    requires lists { ⌜ BothWays places (now ones) (now others) (now «first_one») (now «next_one») (now «first_other»)
         (now «next_other») ⌝ }
     ensures { λ r.
         ⌜ Given (trailOf (linksOf (now (ones .entry)) (now (others .entry))) one other) (now (chain .entry)) r
         (now (chain .exit)) ⌝ }
 {
-    let mut remaining = [0u16; 1024];
+    let mut remaining = [0u16; PLACES];
     count_cells(
         ones,
         others,

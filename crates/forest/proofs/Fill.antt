@@ -16,6 +16,9 @@ pub record Filled (f : ℕ → ℕ) (n : ℕ) (l : List ℕ) (i : ℕ) : Type 0 
   pub filled : (k : ℕ) → k < i → getD l k 0 ≡ f k
 
 module _ {f : ℕ → ℕ} {n : ℕ} where
+  pub fill-none : {l : List ℕ} → length l ≡ n → Filled f n l 0
+  fill-none e = record { within = omega arith; long = e; filled = λ k h. absurd (omega arith) }
+
   pub fill-one : {l : List ℕ} {i v : ℕ} → Filled f n l i → i < n → v ≡ f i → Filled f n (set l i v) (i + 1)
   fill-one {l} {i} {v} r h e =
       record {
@@ -26,7 +29,7 @@ module _ {f : ℕ → ℕ} {n : ℕ} where
       }
 
   -- a list with these entries is the filled array
-  pub fill-all : {l m : List ℕ} {i : ℕ} → Filled f n l i → n ≤ i → length m ≡ n → ((k : ℕ) → k < n → getD m k 0 ≡ f k) → l ≡ m
+  fill-all : {l m : List ℕ} {i : ℕ} → Filled f n l i → n ≤ i → length m ≡ n → ((k : ℕ) → k < n → getD m k 0 ≡ f k) → l ≡ m
   fill-all {l} {m} r h e g = ext-getD 0 l m (cc) (λ k k<l. r .filled k (omega arith) ∙ sym (g k (omega arith)))
 
 -- within a list the default does not matter
@@ -45,6 +48,10 @@ unfolding countFrom
 getD-countFrom i zero c d h = omega arith
 getD-countFrom i (suc n) zero d h = omega arith
 getD-countFrom i (suc n) (suc c) d h = getD-countFrom (suc i) n c d (omega arith) ∙ omega arith
+
+-- the numbers themselves are what a loop fills in that stores each place's own
+pub fill-count : {n : ℕ} {l : List ℕ} {i : ℕ} → Filled (λ c. c) n l i → n ≤ i → l ≡ countFrom 0 n
+fill-count {n} r h = fill-all r h (length-countFrom 0 n) (λ k k<n. getD-countFrom 0 n k 0 k<n ∙ zero-add k)
 
 -- f of each of the numbers 0 to n - 1
 module _ (f : ℕ → ℕ) (n : ℕ) where

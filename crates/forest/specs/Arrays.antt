@@ -13,6 +13,10 @@ use Rattle.graph.specs.Forest as graph
 use Rattle.graph.specs.Forest.{Forest, climb}
 use Rattle.forest.specs.declared.Walk.{Walk}
 
+-- how long the arrays of cells are that the functions make and change; the lists of the definitions may have any length
+abbrev pub places : ℕ
+places = 1024
+
 -- the parent, the size and the label that a list gives a cell
 abbrev pub parentIn : (parents : Parents) (cell : Cell) → Cell
 parentIn ps c = getD ps c c

@@ -3,7 +3,10 @@
 pub mod walks; // walks.rt: the root and the steps of a cell, without a cut and at a cut
 
 ghost use mathlib.Core.Path.{_≡_};
-ghost use Rattle.forest.specs.Arrays.{freshParents, freshSizes, freshLabels};
+ghost use Rattle.forest.specs.Arrays.{places, freshParents, freshSizes, freshLabels};
+
+// How long an array of cells is. A book has at most as many cells.
+pub const PLACES: usize = 1024;
 
 // Where a walk ends, and its parent steps.
 pub struct Walk {
@@ -12,27 +15,27 @@ pub struct Walk {
 }
 
 // Each cell its own root ..
-pub fn fresh_parents() -> [u16; 1024]
-    ensures { λ r. ⌜ r ≡ freshParents 1024 ⌝ }
+pub fn fresh_parents() -> [u16; PLACES]
+    ensures { λ r. ⌜ r ≡ freshParents places ⌝ }
 {
-    let mut parent = [0u16; 1024];
-    let mut cell: u16 = 0;
-    while cell < 1024 {
-        parent[cell as usize] = cell;
+    let mut parent = [0u16; PLACES];
+    let mut cell = 0;
+    while cell < PLACES {
+        parent[cell] = cell as u16;
         cell += 1;
     }
     parent
 }
 
 // .. of size 1.
-pub fn fresh_sizes() -> [u16; 1024]
-    ensures { λ r. ⌜ r ≡ freshSizes 1024 ⌝ }
+pub fn fresh_sizes() -> [u16; PLACES]
+    ensures { λ r. ⌜ r ≡ freshSizes places ⌝ }
 {
-    [1; 1024]
+    [1; PLACES]
 }
 
-pub fn fresh_labels() -> [u8; 1024]
-    ensures { λ r. ⌜ r ≡ freshLabels 1024 ⌝ }
+pub fn fresh_labels() -> [u8; PLACES]
+    ensures { λ r. ⌜ r ≡ freshLabels places ⌝ }
 {
-    [0; 1024]
+    [0; PLACES]
 }

@@ -1,6 +1,7 @@
 // Walks: from a cell to its root along the parents, at most `most` steps.
 ghost use mathlib.Core.Path.{_≡_};
-ghost use Rattle.forest.specs.Arrays.{parentIn, labelIn, parentAtIn, walkOf, walkAtOf, rootsOf, rootsAtOf};
+ghost use Rattle.forest.specs.Arrays.{places, parentIn, labelIn, parentAtIn, walkOf, walkAtOf, rootsOf, rootsAtOf};
+use super::PLACES;
 use super::Walk;
 
 // The cell's parent; a cell beyond the slice stands still.
@@ -90,26 +91,26 @@ fn root_at<'a>(parent: &'a [u16], label: &'a [u8], limit: u8, cut: u8, cell: u16
 }
 
 // The root of each cell.
-pub fn roots(parent: &[u16], limit: u8) -> [u16; 1024]
-    ensures { λ r. ⌜ r ≡ rootsOf (now (parent .entry)) limit 1024 ⌝ }
+pub fn roots(parent: &[u16], limit: u8) -> [u16; PLACES]
+    ensures { λ r. ⌜ r ≡ rootsOf (now (parent .entry)) limit places ⌝ }
 {
-    let mut found = [0u16; 1024];
-    let mut cell: u16 = 0;
-    while cell < 1024 {
-        found[cell as usize] = root(parent, limit, cell);
+    let mut found = [0u16; PLACES];
+    let mut cell = 0;
+    while cell < PLACES {
+        found[cell] = root(parent, limit, cell as u16);
         cell += 1;
     }
     found
 }
 
 // The root of each cell at a cut.
-pub fn roots_at<'a>(parent: &'a [u16], label: &'a [u8], limit: u8, cut: u8) -> [u16; 1024]
-    ensures { λ r. ⌜ r ≡ rootsAtOf (now (parent .entry)) (now (label .entry)) limit cut 1024 ⌝ }
+pub fn roots_at<'a>(parent: &'a [u16], label: &'a [u8], limit: u8, cut: u8) -> [u16; PLACES]
+    ensures { λ r. ⌜ r ≡ rootsAtOf (now (parent .entry)) (now (label .entry)) limit cut places ⌝ }
 {
-    let mut found = [0u16; 1024];
-    let mut cell: u16 = 0;
-    while cell < 1024 {
-        found[cell as usize] = root_at(parent, label, limit, cut, cell);
+    let mut found = [0u16; PLACES];
+    let mut cell = 0;
+    while cell < PLACES {
+        found[cell] = root_at(parent, label, limit, cut, cell as u16);
         cell += 1;
     }
     found

@@ -8,7 +8,7 @@ use lib.Dec.{eqb, leb, ltb}
 use lib.ListN.{length, getD}
 use Rattle.numbers.specs.Kinds.{Cell, Labels, Parents, Sizes}
 use Rattle.graph.specs.Forest.{climb}
-use Rattle.forest.specs.Arrays.{parentIn}
+use Rattle.forest.specs.Arrays.{places, parentIn}
 
 -- f holds of every entry of the list, given its place and the entry; the first place is i
 unfoldable pub every : (test : ℕ → ℕ → Bool) (first : ℕ) (entries : List ℕ) → Bool
@@ -42,9 +42,9 @@ soundOf ps ss limit =
 abbrev pub labelsWithin : (labels : Labels) (bound : ℕ) → Bool
 labelsWithin ls bound = every (λ c x. leb x bound) 0 ls
 
--- what the quick way takes: at most 1,024 cells, as many sizes as parents, and all of them in their ranges
+-- what the quick way takes: no more cells than an array has places, as many sizes as parents, and all of them in their ranges
 pub record Comparable (ps ss : List ℕ) : Type 0 where
-  pub few : length ps ≤ 1024
+  pub few : length ps ≤ places
   pub long : length ss ≡ length ps
   pub parents : every (within 0 (length ps)) 0 ps ≡ true
   pub sizes : every (within 1 (length ps + 1)) 0 ss ≡ true

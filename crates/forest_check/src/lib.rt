@@ -4,11 +4,12 @@
 // doubles a size that stays within the number of cells. Only where some size does not do that are the walks taken.
 // A pass keeps a flag, or the least and the greatest so far, in the width of the entries, and goes on, with no way out: so a
 // machine can do several entries at a time.
+use forest::PLACES;
 ghost use mathlib.Core.Path.{_≡_};
 ghost use mathlib.Core.Bool.{cond, _&&_};
 ghost use Prim.Native.Nat.{_-_, _*_, _^_, _≤_};
 ghost use lib.Dec.{eqb, leb, ltb};
-ghost use Rattle.forest.specs.Arrays.{parentIn};
+ghost use Rattle.forest.specs.Arrays.{places, parentIn};
 ghost use Rattle.forest_check.specs.Sound.{every, within, ends, endsFrom, Comparable, Above, doublesAt, soundOf, labelsWithin};
 
 // Whether the arrays are a forest's, with no walk over `most` steps.
@@ -73,9 +74,9 @@ pub fn all_within(numbers: &[u16], low: usize, end: usize) -> bool
 // Whether sizes can tell: a walk of `most` steps, each of which doubles a size, reaches the size `cells`, and there are no more
 // than are gathered below.
 fn reaches(limit: u8, cells: usize) -> bool
-    ensures { λ r. ⌜ r ≡ (leb cells 1024 && leb cells (2 ^ limit)) ⌝ }
+    ensures { λ r. ⌜ r ≡ (leb cells places && leb cells (2 ^ limit)) ⌝ }
 {
-    if 1024 < cells {
+    if PLACES < cells {
         return false;
     }
     if limit < 64 {
@@ -101,11 +102,11 @@ fn doubles<'a>(parent: &'a [u16], size: &'a [u16]) -> bool
 }
 
 // The size of each cell's parent. They are gathered first, one by one, so that the comparison has no place to look up.
-fn sizes_above<'a>(parent: &'a [u16], size: &'a [u16]) -> [u16; 1024]
+fn sizes_above<'a>(parent: &'a [u16], size: &'a [u16]) -> [u16; PLACES]
     requires { ⌜ Comparable (now parent) (now size) ⌝ }
     ensures { λ r. ⌜ Above (now (parent .entry)) (now (size .entry)) r ⌝ }
 {
-    let mut above = [0u16; 1024];
+    let mut above = [0u16; PLACES];
     let mut i = 0;
     while i < parent.len() {
         let up = parent[i] as usize;
@@ -117,7 +118,7 @@ fn sizes_above<'a>(parent: &'a [u16], size: &'a [u16]) -> [u16; 1024]
 
 // What the size above a cell lacks of twice its own; a root lacks nothing.
 fn lack(cell: u16, up: u16, own: u16, above: u16) -> u16
-    requires { ⌜ own ≤ 1024 ⌝ }
+    requires { ⌜ own ≤ places ⌝ }
     ensures { λ r. ⌜ r ≡ cond (eqb up cell) 0 (2 * own - above) ⌝ }
 {
     if up == cell {

@@ -3,7 +3,9 @@
 // listed (crate buckets).
 use buckets::entry_at;
 use buckets::list_entries;
+use forest::PLACES;
 ghost use Prim.Native.Nat.{_<_};
+ghost use Rattle.forest.specs.Arrays.{places};
 ghost use Rattle.forest_cross.specs.Across.{Keyed, JoinedAcross};
 ghost use Rattle.forest_cross.specs.Marks.{Sides, Begins, Crossed};
 
@@ -89,24 +91,29 @@ fn from_forward(
 
 // Whether one cell's backward group leads across to the other cell's. Each group is entered once and each list walked
 // once, so the time is linear in the cells.
-pub fn joined_across(backward: &[u16; 1024], forward: &[u16; 1024], one: u16, other: u16) -> bool
+pub fn joined_across(
+    backward: &[u16; PLACES],
+    forward: &[u16; PLACES],
+    one: u16,
+    other: u16,
+) -> bool
     requires backward { ⌜ Keyed (now backward) ⌝ }
     requires forward { ⌜ Keyed (now forward) ⌝ }
-    requires one { ⌜ one < 1024 ⌝ }
-    requires other { ⌜ other < 1024 ⌝ }
+    requires one { ⌜ one < places ⌝ }
+    requires other { ⌜ other < places ⌝ }
     ensures { λ r. ⌜ JoinedAcross (now (backward .entry)) (now (forward .entry)) one other r ⌝ }
 {
     let start = entry_at(backward, one as usize);
     let asked = entry_at(backward, other as usize);
     // 1024 ends a list: to begin with, all are empty.
-    let mut backward_first = [1024u16; 1024];
-    let mut backward_next = [1024u16; 1024];
+    let mut backward_first = [1024u16; PLACES];
+    let mut backward_next = [1024u16; PLACES];
     list_entries(backward, &mut backward_first, &mut backward_next);
-    let mut forward_first = [1024u16; 1024];
-    let mut forward_next = [1024u16; 1024];
+    let mut forward_first = [1024u16; PLACES];
+    let mut forward_next = [1024u16; PLACES];
     list_entries(forward, &mut forward_first, &mut forward_next);
-    let mut backward_marks = [0u8; 1024];
-    let mut forward_marks = [0u8; 1024];
+    let mut backward_marks = [0u8; PLACES];
+    let mut forward_marks = [0u8; PLACES];
     from_backward(
         start,
         backward,

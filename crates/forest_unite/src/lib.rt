@@ -2,6 +2,7 @@
 // are never shortened: a link stores one parent, that of a root.
 pub mod roots; // roots.rt: who hangs under whom
 
+use forest::PLACES;
 ghost use mathlib.Core.Path.{_≡_};
 ghost use lib.ListN.{set};
 ghost use Rattle.forest_unite.specs.United.{mergedParents, mergedSizes, mergedLabels, United};
@@ -16,7 +17,7 @@ pub struct Merge {
 }
 
 // The child's new parent.
-pub fn merge_parents(parent: &mut [u16; 1024], h: Merge)
+pub fn merge_parents(parent: &mut [u16; PLACES], h: Merge)
     ensures { λ _. ⌜ now (parent .exit) ≡ mergedParents (now (parent .entry)) h ⌝ }
 {
     if h.different {
@@ -25,7 +26,7 @@ pub fn merge_parents(parent: &mut [u16; 1024], h: Merge)
 }
 
 // The top's new size.
-pub fn merge_sizes(size: &mut [u16; 1024], h: Merge)
+pub fn merge_sizes(size: &mut [u16; PLACES], h: Merge)
     ensures { λ _. ⌜ now (size .exit) ≡ mergedSizes (now (size .entry)) h ⌝ }
 {
     if h.different {
@@ -34,7 +35,7 @@ pub fn merge_sizes(size: &mut [u16; 1024], h: Merge)
 }
 
 // The label of the child's step.
-pub fn merge_labels(label: &mut [u8; 1024], h: Merge, place: u8)
+pub fn merge_labels(label: &mut [u8; PLACES], h: Merge, place: u8)
     ensures { λ _. ⌜ now (label .exit) ≡ mergedLabels (now (label .entry)) h place ⌝ }
 {
     if h.different {
@@ -44,9 +45,9 @@ pub fn merge_labels(label: &mut [u8; 1024], h: Merge, place: u8)
 
 // One link more, whose step is labelled with the place.
 pub fn unite(
-    parent: &mut [u16; 1024],
-    size: &mut [u16; 1024],
-    label: &mut [u8; 1024],
+    parent: &mut [u16; PLACES],
+    size: &mut [u16; PLACES],
+    label: &mut [u8; PLACES],
     limit: u8,
     place: u8,
     one: u16,

@@ -9,7 +9,7 @@ use Rattle.settings.specs.declared.Settings.{Settings}
 use Rattle.cells.specs.Cell.{mirror, lorryCell}
 use Rattle.slides.specs.Clock.{notBefore, slideOf, openSlide, chunkOf, placeOf, started, movedTo, clockInRange}
 use Rattle.slides.specs.declared.Clock.{Clock}
-use Rattle.forest.specs.Arrays.{freshParents, freshSizes, freshLabels, walkOf, walkAtOf, rootsOf, rootsAtOf}
+use Rattle.forest.specs.Arrays.{places, freshParents, freshSizes, freshLabels, walkOf, walkAtOf, rootsOf, rootsAtOf}
 use Rattle.forest_unite.specs.United.{mergeOfRoots, mergeOf, mergedParents, mergedSizes, mergedLabels, United}
 use Rattle.forest_unite.specs.declared.Merge.{Merge}
 use Rattle.forest_check.specs.Sound.{every, within, soundOf, labelsWithin}
@@ -122,14 +122,14 @@ pub record Single : Type 0 where
   pub advance : (clock : Clock) (tick : ℕ) → AtMostOne (λ r. r ≡ movedTo clock tick)
   pub advanced : (clock : Clock) (tick : ℕ) → AtMostOne (λ r. r ≡ movedTo clock tick)
   -- forest
-  pub fresh-parents : AtMostOne (λ r. r ≡ freshParents 1024)
-  pub fresh-sizes : AtMostOne (λ r. r ≡ freshSizes 1024)
-  pub fresh-labels : AtMostOne (λ r. r ≡ freshLabels 1024)
+  pub fresh-parents : AtMostOne (λ r. r ≡ freshParents places)
+  pub fresh-sizes : AtMostOne (λ r. r ≡ freshSizes places)
+  pub fresh-labels : AtMostOne (λ r. r ≡ freshLabels places)
   pub walk : (parent : List ℕ) (limit cell : ℕ) → AtMostOne (λ r. r ≡ walkOf parent limit cell)
   pub walk-at : (parent label : List ℕ) (limit cut cell : ℕ) → AtMostOne (λ r. r ≡ walkAtOf parent label limit cut cell)
   pub root : (parent : List ℕ) (limit cell : ℕ) → AtMostOne (λ r. r ≡ walkOf parent limit cell .root)
-  pub roots : (parent : List ℕ) (limit : ℕ) → AtMostOne (λ r. r ≡ rootsOf parent limit 1024)
-  pub roots-at : (parent label : List ℕ) (limit cut : ℕ) → AtMostOne (λ r. r ≡ rootsAtOf parent label limit cut 1024)
+  pub roots : (parent : List ℕ) (limit : ℕ) → AtMostOne (λ r. r ≡ rootsOf parent limit places)
+  pub roots-at : (parent label : List ℕ) (limit cut : ℕ) → AtMostOne (λ r. r ≡ rootsAtOf parent label limit cut places)
   -- forest_unite
   pub merge-of-roots : (size : List ℕ) (a b : ℕ) → AtMostOne (λ r. r ≡ mergeOfRoots size a b)
   pub hang : (parent size : List ℕ) (limit one other : ℕ) → AtMostOne (λ r. r ≡ mergeOf parent size limit one other)

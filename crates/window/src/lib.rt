@@ -3,6 +3,7 @@
 mod links; // links.rt: the links of a slide into arrays
 
 use book_state::Book;
+use forest::PLACES;
 ghost use mathlib.Core.Path.{_≡_};
 ghost use mathlib.Core.List.{reverse};
 ghost use Prim.Native.Nat.{_≤_};
@@ -54,9 +55,9 @@ pub fn grow<'a>(
     others: &'a [u16],
     labels: &'a [u8],
     count: usize,
-    parent: &mut [u16; 1024],
-    size: &mut [u16; 1024],
-    label: &mut [u8; 1024],
+    parent: &mut [u16; PLACES],
+    size: &mut [u16; PLACES],
+    label: &mut [u8; PLACES],
 )
     requires { ⌜ (count ≤ length (now ones)) × (count ≤ length (now others)) × (count ≤ length (now labels)) ⌝ }
     ensures { λ _.

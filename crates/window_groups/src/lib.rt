@@ -3,6 +3,7 @@
 mod trees; // trees.rt: the forest of a window's links, and what its trees tell
 
 use book_state::Book;
+use forest::PLACES;
 ghost use mathlib.Core.Path.{_≡_};
 ghost use Rattle.book_state.specs.Log.{Readable};
 ghost use Rattle.window_groups.specs.Groups.{groupsOf};
@@ -10,9 +11,9 @@ ghost use Rattle.window_groups.specs.Groups.{groupsOf};
 // Of each cell, what its group is: its smallest cell, how many cells it has, and the least hold over its pairs. And how many links
 // the window has.
 pub struct Groups {
-    pub first: [u16; 1024],
-    pub count: [u16; 1024],
-    pub hold: [u8; 1024],
+    pub first: [u16; PLACES],
+    pub count: [u16; PLACES],
+    pub hold: [u8; PLACES],
     pub links: usize,
 }
 

@@ -2,6 +2,7 @@
 // step in it, less 1. A pass from the last cell to the first stores at each cell's root, and another fetches it from there.
 use super::Groups;
 use book_state::Book;
+use forest::PLACES;
 ghost use mathlib.Core.Path.{_≡_};
 ghost use lib.ListN.{length};
 ghost use Rattle.book_state.specs.Log.{Readable};
@@ -9,8 +10,8 @@ ghost use Rattle.window_groups.specs.Trees.{windowForestOf, Roots, lower
 
 // The forest of a window's links, and how many links there are.
 pub struct WindowForest {
-    pub parent: [u16; 1024],
-    pub label: [u8; 1024],
+    pub parent: [u16; PLACES],
+    pub label: [u8; PLACES],
     pub count: usize,
 }
 
@@ -54,24 +55,24 @@ fn lower_label(cell: u16, parent: u16, label: u8, least: u8) -> u8
 
 // Of each root's tree: its smallest cell, how many cells it has, and the smallest label of a parent step in it.
 pub struct Tallies {
-    pub first: [u16; 1024],
-    pub count: [u16; 1024],
-    pub least: [u8; 1024],
+    pub first: [u16; PLACES],
+    pub count: [u16; PLACES],
+    pub least: [u8; PLACES],
 }
 
 // The tallies, in one pass. The cell that is stored last for a tree is its smallest; `top` stands where there is no step.
 pub fn tally<'a>(
-    root: &'a [u16; 1024],
-    parent: &'a [u16; 1024],
-    label: &'a [u8; 1024],
+    root: &'a [u16; PLACES],
+    parent: &'a [u16; PLACES],
+    label: &'a [u8; PLACES],
     top: u8,
 ) -> Tallies
     requires { ⌜ Roots (now root) × (length (now parent) ≡ 1024) ⌝ }
     ensures { λ r. ⌜ r ≡ talliesOf (now (root .entry)) (now (parent .entry)) (now (label .entry)) top ⌝ }
 {
-    let mut first = [0u16; 1024];
-    let mut count = [0u16; 1024];
-    let mut least = [top; 1024];
+    let mut first = [0u16; PLACES];
+    let mut count = [0u16; PLACES];
+    let mut least = [top; PLACES];
     let mut cell: u16 = 1024;
     while 0 < cell {
         cell -= 1;
@@ -89,13 +90,13 @@ pub fn tally<'a>(
 }
 
 // Of each cell, what stands at its root.
-pub fn at_roots(root: &[u16; 1024], tallies: Tallies, links: usize) -> Groups
+pub fn at_roots(root: &[u16; PLACES], tallies: Tallies, links: usize) -> Groups
     requires { ⌜ Roots (now root) × FromOne (now root) (tallies .least) ⌝ }
     ensures { λ r. ⌜ r ≡ groupsAt (now (root .entry)) tallies links ⌝ }
 {
-    let mut first = [0u16; 1024];
-    let mut count = [0u16; 1024];
-    let mut hold = [0u8; 1024];
+    let mut first = [0u16; PLACES];
+    let mut count = [0u16; PLACES];
+    let mut hold = [0u8; PLACES];
     let mut cell: u16 = 0;
     while cell < 1024 {
         let at = cell as usize;

@@ -2,6 +2,7 @@
 use mathlib.Core.Path.{refl, sym, _∙_}
 use native.Mathlib.Omega.{arith}
 use borrow.Author.Needs.{needs}
+use Rattle.forest.specs.Arrays.{places}
 use Rattle.buckets.proofs.Listing.{none-listed, same-bound}
 use Rattle.chain_fewest.proofs.BestTrail.{places-long, both-ways}
 use Rattle.chain_fewest.proofs.best_trail.Statement.{statement}
@@ -13,7 +14,7 @@ slice-aggregate-next-one c = sym (places-long _ (c .before .before .before .befo
 list-entries-requires : tie.Need-list-entries-requires
 list-entries-requires c κs =
     let given = c .before .before .before .before .before .before .pre in
-    (omega (arith, given .few), none-listed 1024 (given .onesInside) (places-long _ (given .few)) refl)
+    (omega (arith, given .few), none-listed places (given .onesInside) (places-long _ (given .few)) refl)
 
 slice-aggregate-next-other : tie.Need-slice-aggregate-next-other
 slice-aggregate-next-other c = sym (places-long _ (c .before .before .before .before .before .before .before .before .before .before .before .pre .few))
@@ -21,7 +22,7 @@ slice-aggregate-next-other c = sym (places-long _ (c .before .before .before .be
 list-entries-requires-2 : tie.Need-list-entries-requires-2
 list-entries-requires-2 c κs =
     let given = c .before .before .before .before .before .before .before .before .before .before .before .before .before .pre in
-    (omega (arith, given .few, given .even), none-listed 1024 (given .othersInside) (places-long _ (given .few) ∙ sym (given .even)) (sym (given .even)))
+    (omega (arith, given .few, given .even), none-listed places (given .othersInside) (places-long _ (given .few) ∙ sym (given .even)) (sym (given .even)))
 
 trail-over-requires : tie.Need-trail-over-requires
 trail-over-requires c κs =

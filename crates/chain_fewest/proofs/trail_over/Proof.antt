@@ -2,6 +2,7 @@
 use Prim.Native.Nat.{ℕ}
 use borrow.Author.Needs.{needs}
 use lib.ListN.{length-replicate}
+use Rattle.forest.specs.Arrays.{places}
 use Rattle.chain_fewest.proofs.BestTrail.{all-blank, may-descend, gives-written, gives-unwritten}
 use Rattle.chain_fewest.proofs.trail_over.Statement.{statement}
 use Rattle.chain_fewest.proofs.trail_over.Tie as tie
@@ -9,7 +10,7 @@ use Rattle.chain_fewest.proofs.trail_over.Tie as tie
 count-cells-requires : tie.Need-count-cells-requires
 count-cells-requires c κs =
     let given = c .before .before .before .before .before .before .before .before .pre in
-    (given .0 .otherInside, (length-replicate {A = ℕ} 1024 0, (all-blank 1024, given .1)))
+    (given .0 .otherInside, (length-replicate {A = ℕ} places 0, (all-blank places, given .1)))
 
 returns : tie.Need-returns
 returns c =

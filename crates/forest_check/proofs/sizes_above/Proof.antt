@@ -4,13 +4,14 @@ use borrow.Author.Needs.{needs}
 use mathlib.Core.Path.{refl}
 use native.Mathlib.Omega.{arith}
 use lib.ListN.{length, getD}
+use Rattle.forest.specs.Arrays.{places}
 use Rattle.forest.proofs.Fill.{Filled, fill-one}
 use Rattle.forest_check.proofs.Every.{every-each, within-high}
 use Rattle.forest_check.proofs.sizes_above.Statement.{statement}
 use Rattle.forest_check.proofs.sizes_above.Tie as tie
 
 abbrev Inv-loop : tie.InvT-loop
-Inv-loop parent size above₀ i₀ above i = Filled (λ c. getD size (getD parent c 0) 0) 1024 above i
+Inv-loop parent size above₀ i₀ above i = Filled (λ c. getD size (getD parent c 0) 0) places above i
 
 abbrev μ-loop : tie.MeasureT-loop
 μ-loop parent size above₀ i₀ above i = length parent - i

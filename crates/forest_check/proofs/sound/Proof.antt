@@ -7,6 +7,7 @@ use mathlib.Core.Bool.{true, and-eq-true-iff}
 use native.Mathlib.Omega.{arith}
 use lib.Dec.{eqb}
 use lib.ListN.{length}
+use Rattle.forest.specs.Arrays.{places}
 use Rattle.forest.proofs.Ranged.{Ranged}
 use Rattle.forest_check.specs.Sound.{every, within}
 use Rattle.forest_check.proofs.Doubling.{doubles-end}
@@ -28,7 +29,7 @@ ranges : (c : tie.Else3) → (let a = c .before .before .before .before .before 
 ranges c = ranged _ _ (long (c .before .before .before .before)) (parents (c .before .before)) (sizes c)
 
 -- what the quick way has asked
-quick : (c : tie.Then4) → (let a = c .before .before .before .before .before .before .before .before .before .args in (length (a .parent .now) ≤ 1024) × (length (a .parent .now) ≤ 2 ^ a .limit))
+quick : (c : tie.Then4) → (let a = c .before .before .before .before .before .before .before .before .before .args in (length (a .parent .now) ≤ places) × (length (a .parent .now) ≤ 2 ^ a .limit))
 quick c =
     let both = and-eq-true-iff _ _ .0 (sym (c .before .reaches .ensures) ∙ c .if4 .taken) in
     (leb-true _ _ (both .0), leb-true _ _ (both .1))

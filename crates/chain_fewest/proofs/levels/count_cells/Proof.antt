@@ -5,6 +5,7 @@ use Prim.Native.Nat.{_-_}
 use mathlib.Core.Path.{sym, _∙_}
 use native.Mathlib.Omega.{arith}
 use borrow.Author.Needs.{needs}
+use Rattle.forest.specs.Arrays.{places}
 use Rattle.chain_fewest.proofs.Counting.{Counting, counting-begins, queue-left, ready-forth, ready-back, counting-turns, counting-ends}
 use Rattle.chain_fewest.proofs.levels.count_cells.Statement.{statement}
 use Rattle.chain_fewest.proofs.levels.count_cells.Tie as tie
@@ -15,7 +16,7 @@ Inv-loop ones others first-one next-one first-other next-other other remaining�
 
 abbrev μ-loop : tie.MeasureT-loop
 μ-loop ones others first-one next-one first-other next-other other remaining₀ queue₀ head₀ tail₀ remaining queue head tail =
-    1024 - head
+    places - head
 
 loop-holds : tie.Need-loop-holds Inv-loop μ-loop
 loop-holds c =
