@@ -163,7 +163,20 @@ pub extern "C" fn kerb_value_chain(
 ) -> ChainAnswer
     ensures { λ r. ⌜ GivesChain (chainOf book (now (log .entry)) (now (chain .entry)) one other) r (now (chain .exit)) ⌝ }
 {
-    chain::chain(book, log, one, other, chain)
+    chain::over_fields(
+        book.clock,
+        book.mounting,
+        &book.counts,
+        &book.forward_parent,
+        &book.forward_size,
+        &book.backward_parent,
+        &book.backward_size,
+        &book.backward_label,
+        log,
+        one,
+        other,
+        chain,
+    )
 }
 
 // The settings of a link file, and how many records it has.

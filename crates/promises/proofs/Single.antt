@@ -64,7 +64,7 @@ single =
       fields-link = λ b log tick one other. fields-give _;
       fields-clock = λ b log tick. fields-give _;
       joined = λ b one other. equal;
-      gather = λ b log ones others labels r s p q i. (
+      gather = λ clock counts log ones others labels r s p q i. (
         equal (r .0) (s .0) (p .until) (q .until) i,
         equal (r .1) (s .1) (p .first) (q .first) i,
         equal (r .2) (s .2) (p .second) (q .second) i,
@@ -79,7 +79,7 @@ single =
       half-word = λ bytes place. equal;
       word = λ bytes place. equal;
       play = λ file m b log r s p q. both r s (p .played, p .logged) (q .played, q .logged);
-      of-window = λ b log. equal;
+      of-window = λ clock counts log. equal;
       put-word = λ word out at. written;
       put-fields = λ word numbers out at. written;
       put-line = λ word numbers out at. written;

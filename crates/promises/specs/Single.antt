@@ -75,8 +75,8 @@ pub record Single : Type 0 where
   -- joined, by value and over lent fields
   pub joined : (b : Book) (one other : ℕ) → AtMostOne (λ r. r ≡ joinedOf b one other)
   -- window
-  pub gather : (b : Book) (log ones others labels : List ℕ) →
-      AtMostOne {A = ℕ × List ℕ × List ℕ × List ℕ} (λ r. Put (windowLinks b log) 0 ones others labels (r .0) (r .1) (r .2) (r .3))
+  pub gather : (clock : Clock) (counts log ones others labels : List ℕ) →
+      AtMostOne {A = ℕ × List ℕ × List ℕ × List ℕ} (λ r. Put (windowLinks clock counts log) 0 ones others labels (r .0) (r .1) (r .2) (r .3))
   pub grow : (ones others labels : List ℕ) (count : ℕ) (before : Arrays) →
       AtMostOne (λ r. r ≡ unitedAll before (reverse (linksIn ones others labels count)))
   pub highest-label : (parent label : List ℕ) (top one other : ℕ) → AtMostOne (λ r. r ≡ agreeFrom top parent label one other)
@@ -96,7 +96,7 @@ pub record Single : Type 0 where
   pub play : (file : List ℕ) (m : ℕ) (b : Book) (log : List ℕ) →
       AtMostOne {A = Played × List ℕ} (λ r. Plays (playFrom file 0 m b log) (r .0) (r .1))
   -- groups
-  pub of-window : (b : Book) (log : List ℕ) → AtMostOne (λ r. r ≡ groupsOf b log)
+  pub of-window : (clock : Clock) (counts log : List ℕ) → AtMostOne (λ r. r ≡ groupsOf clock counts log)
   -- text
   pub put-word : (word out : List ℕ) (at : ℕ) → AtMostOne {A = ℕ × List ℕ} (λ r. Written word at out (r .0) (r .1))
   pub put-fields : (word numbers out : List ℕ) (at : ℕ) →
