@@ -1,9 +1,9 @@
 // The joined call: four walks, always all four; and where neither forest alone decides, the crossing.
 use book_state::Book;
 use book_state::order;
+use cells::Fitting;
 use forest::PLACES;
 use forest::walks;
-use cells::Fitting;
 use slides::Clock;
 ghost use mathlib.Core.Path.{_≡_};
 ghost use mathlib.Core.Bool.{false, cond, not, _&&_};

@@ -17,13 +17,14 @@ use Rattle.graph.specs.Forest.{Labelled}
 use Rattle.graph.specs.Trail.{trailOf}
 use Rattle.graph.proofs.Cut.{each-map, all-at-least}
 use Rattle.slides.specs.Clock.{openSlide}
+use Rattle.slides.specs.declared.Clock.{Clock}
 use Rattle.book_state.specs.declared.Book.{Book}
 use Rattle.book_state.specs.Arrays.{cells}
 use Rattle.book_state.specs.Order.{inOrder}
 use Rattle.numbers.specs.Checks.{firstOf, unless, has}
 use Rattle.book_state.specs.Numbers.{logPlaces}
 use Rattle.numbers.proofs.Checks.{passes, fails, last-passes, has-length}
-use Rattle.book_state.proofs.Checks.{both-cells, first-no-cell, second-no-cell, readable}
+use Rattle.book_state.proofs.Checks.{both-cells, first-no-cell, second-no-cell}
 use Rattle.window.specs.Window.{windowLinks, linksFromLabel, highest}
 use Rattle.window.specs.Gathered.{onesOf, othersOf, labelsOf, Put, linksIn}
 use Rattle.window.proofs.Gathered.{Fits, Fronts, window-fits, put-fronts, put-read}
@@ -34,7 +35,7 @@ use Rattle.chain_fewest.specs.Lists.{linksOf}
 use Rattle.chain_fewest.specs.Descent.{written}
 use Rattle.chain_fewest.specs.Best.{Asked, Given}
 use Rattle.chain.specs.Front.{sideFrom, Window}
-use Rattle.chain.specs.Chain.{chainPlaces, labelOf, chainCells, chainNumber, chainByNumber, chainOf, GivesChain, Answerable}
+use Rattle.chain.specs.Chain.{chainPlaces, labelOf, chainCells, windowChecks, chainNumber, ChainOutcome, chainByNumber, chainOf, windowChain, GivesChain, Answerable}
 use Rattle.chain.proofs.Front.{side-links, side-asked}
 
 abbrev pub refusal : ℕ → ChainAnswer
@@ -42,11 +43,17 @@ refusal k = record { newest = 0; cells = 0; hold = 0; number = k }
 
 -- ---- the checks
 
+-- a number that is not 0 is the answer, and the buffer is kept
+refuses : (clock : Clock) (counts log chain : List ℕ) (one other : ℕ) {number k : ℕ} {r : ChainAnswer} {after : List ℕ} → number ≡ suc k
+    → r ≡ refusal (suc k) → after ≡ chain → GivesChain (chainByNumber number clock counts log chain one other) r after
+unfolding chainByNumber
+refuses clock counts log chain one other e same kept = rw e (record { answered = same; written = kept })
+
 module _ (b : Book) (log chain : List ℕ) (one other : ℕ) where
-  pub refuses : {k : ℕ} {r : ChainAnswer} {after : List ℕ} → chainNumber b log chain one other ≡ suc k → r ≡ refusal (suc k) → after ≡ chain
-      → GivesChain (chainOf b log chain one other) r after
-  unfolding chainOf chainByNumber
-  refuses e same kept = rw e (record { answered = same; written = kept })
+  pub call-refused : {k : ℕ} {r : ChainAnswer} → chainNumber b log chain one other ≡ suc k → r ≡ refusal (suc k)
+      → GivesChain (chainOf b log chain one other) r chain
+  unfolding chainOf
+  call-refused e same = refuses (b .clock) (b .counts) log chain one other e same refl
 
   pub out-of-order : inOrder b ≡ false → chainNumber b log chain one other ≡ 1
   unfolding chainNumber
@@ -74,6 +81,15 @@ module _ (b : Book) (log chain : List ℕ) (one other : ℕ) where
         unfolding chainNumber
         not-other h k = passes 1 _ e ∙ passes 6 _ both-rooms ∙ fails 2 _ (second-no-cell h k)
 
+        -- what is left is asked of the window
+        pub call-answered : {r : ChainAnswer} {after : List ℕ} → one < cells → other < cells
+            → GivesChain (windowChain (b .clock) (b .counts) log chain one other) r after → GivesChain (chainOf b log chain one other) r after
+        unfolding chainNumber chainOf
+        call-answered h k given = rw left given
+          where
+            left : chainNumber b log chain one other ≡ firstOf (windowChecks (b .clock) (b .counts) log one other)
+            left = passes 1 _ e ∙ passes 6 _ both-rooms ∙ passes 3 _ (both-cells h k)
+
 -- ---- an answerable call
 
 -- the arrays before the links are put
@@ -92,83 +108,89 @@ put-long {xs} put = (
   sym (ap length (put .third) ∙ length-sets blank 0 (labelsOf xs) ∙ long),
 )
 
-module _ {b : Book} {log chain : List ℕ} {one other : ℕ} (a : Answerable b log chain one other) where
-  -- what is left to check
-  left : chainNumber b log chain one other
-      ≡ firstOf (unless (ltb 0 (labelOf b log one other)) 7 ∷ unless (leb (length (chainCells b log one other)) 1024) 8 ∷ [])
-  unfolding chainNumber
-  left =
-      passes 1 _ (a .in-order)
-      ∙ passes 6 _ (both-rooms b log chain one other (a .in-order) (a .log-room) (a .chain-room))
-      ∙ passes 3 _ (both-cells (a .one-cell) (a .other-cell))
+module _ {clock : Clock} {counts log chain : List ℕ} {one other : ℕ} (a : Answerable clock counts log chain one other) where
+  abbrev links : List Labelled
+  links = windowLinks clock counts log
 
-  module _ {j : ℕ} (is : j ≡ labelOf b log one other) where
+  abbrev label : ℕ
+  label = labelOf clock counts log one other
+
+  abbrev path : List ℕ
+  path = chainCells clock counts log one other
+
+  abbrev outcome : ChainOutcome
+  outcome = windowChain clock counts log chain one other
+
+  abbrev number : ℕ
+  number = firstOf (windowChecks clock counts log one other)
+
+  module _ {j : ℕ} (is : j ≡ label) where
     -- 7
-    pub unjoined : {r : ChainAnswer} → j ≡ 0 → r ≡ refusal 7 → GivesChain (chainOf b log chain one other) r chain
-    unjoined e same = refuses b log chain one other (left ∙ fails 6 _ (le-ltb 0 (labelOf b log one other) (omega arith))) same refl
+    pub unjoined : {r : ChainAnswer} → j ≡ 0 → r ≡ refusal 7 → GivesChain outcome r chain
+    unjoined e same = refuses clock counts log chain one other (fails 6 _ (le-ltb 0 label (omega arith))) same refl
 
-    label-few : j ≤ suc (b .clock .n)
-    label-few = rw is (highest-most (windowLinks b log) one other (suc (b .clock .n)))
+    label-few : j ≤ suc (clock .n)
+    label-few = rw is (highest-most links one other (suc (clock .n)))
 
     module _ (joined : 0 < j) where
-      passed : chainNumber b log chain one other ≡ firstOf (unless (leb (length (chainCells b log one other)) 1024) 8 ∷ [])
-      passed = left ∙ passes 7 _ (lt-ltb 0 (labelOf b log one other) (rw is at joined))
+      passed : number ≡ firstOf (unless (leb (length path) 1024) 8 ∷ [])
+      passed = passes 7 _ (lt-ltb 0 label (rw is at joined))
 
       -- 8
-      pub too-long : {r : ChainAnswer} {count : ℕ} {after : List ℕ} → Given (chainCells b log one other) chain count after → 1024 < count
-          → r ≡ refusal 8 → GivesChain (chainOf b log chain one other) r after
+      pub too-long : {r : ChainAnswer} {count : ℕ} {after : List ℕ} → Given path chain count after → 1024 < count
+          → r ≡ refusal 8 → GivesChain outcome r after
       too-long g h same =
-          let long : leb (length (chainCells b log one other)) 1024 ≡ false = lt-leb (length (chainCells b log one other)) 1024 (rw (g .count) at h) in
-          refuses b log chain one other (passed ∙ fails 7 _ long) same (rw long at (g .buffer))
+          let long : leb (length path) 1024 ≡ false = lt-leb (length path) 1024 (rw (g .count) at h) in
+          refuses clock counts log chain one other (passed ∙ fails 7 _ long) same (rw long at (g .buffer))
 
-      pub answers : {r : ChainAnswer} {count k : ℕ} {after : List ℕ} → Given (chainCells b log one other) chain count after → count ≤ 1024
-          → k ≡ openSlide (b .clock) → r ≡ record { newest = k + j - b .clock .n; cells = count; hold = j - 1; number = 0 }
-          → GivesChain (chainOf b log chain one other) r after
-      unfolding chainOf chainByNumber
+      pub answers : {r : ChainAnswer} {count k : ℕ} {after : List ℕ} → Given path chain count after → count ≤ 1024
+          → k ≡ openSlide clock → r ≡ record { newest = k + j - clock .n; cells = count; hold = j - 1; number = 0 }
+          → GivesChain outcome r after
+      unfolding chainByNumber
       answers g h at-open same =
-          let short : leb (length (chainCells b log one other)) 1024 ≡ true = le-leb (length (chainCells b log one other)) 1024 (rw (g .count) at h) in
+          let short : leb (length path) 1024 ≡ true = le-leb (length path) 1024 (rw (g .count) at h) in
           rw (passed ∙ last-passes 8 short) (record { answered = same ∙ rw (at-open, is, g .count); written = rw short at (g .buffer) })
 
-      chained : Chained (linksFromLabel j (windowLinks b log)) one other
+      chained : Chained (linksFromLabel j links) one other
       chained =
-          highest-exactly (windowLinks b log) one other (suc (b .clock .n)) j joined label-few .1 (omega (arith, is))
+          highest-exactly links one other (suc (clock .n)) j joined label-few .1 (omega (arith, is))
 
       -- L is no less than 0
-      pub newest-is : b .clock .n ≤ openSlide (b .clock) + j
-      newest-is = go (decLe (b .clock .n) (openSlide (b .clock)))
+      pub newest-is : clock .n ≤ openSlide clock + j
+      newest-is = go (decLe (clock .n) (openSlide clock))
         where
-          all : linksFromLabel (b .clock .n - openSlide (b .clock)) (windowLinks b log) ≡ linksFromLabel 1 (windowLinks b log)
-          all = ap (map (λ x. x .link)) (all-at-least _ (each-map (λ x p. omega (arith, p)) (window-oldest b log))) ∙ sym (window-all b log)
+          all : linksFromLabel (clock .n - openSlide clock) links ≡ linksFromLabel 1 links
+          all = ap (map (λ x. x .link)) (all-at-least _ (each-map (λ x p. omega (arith, p)) (window-oldest clock counts log))) ∙ sym (window-all clock counts log)
 
-          go : Dec (b .clock .n ≤ openSlide (b .clock)) → b .clock .n ≤ openSlide (b .clock) + j
+          go : Dec (clock .n ≤ openSlide clock) → clock .n ≤ openSlide clock + j
           go (yes h) = omega arith
           go (no h) =
-              let exactly = highest-exactly (windowLinks b log) one other (suc (b .clock .n)) in
-              let first : Chained (linksFromLabel 1 (windowLinks b log)) one other = exactly 1 (omega arith) (omega arith) .1 (omega (arith, is)) in
-              omega (arith, is, exactly (b .clock .n - openSlide (b .clock)) (omega arith) (omega arith) .0 (rw all first))
+              let exactly = highest-exactly links one other (suc (clock .n)) in
+              let first : Chained (linksFromLabel 1 links) one other = exactly 1 (omega arith) (omega arith) .1 (omega (arith, is)) in
+              omega (arith, is, exactly (clock .n - openSlide clock) (omega arith) (omega arith) .0 (rw all first))
 
   -- ---- the links as they are gathered
 
-  module _ {ones others labels : List ℕ} {count : ℕ} (put : Put (windowLinks b log) 0 blank blank blank count ones others labels) where
-    fits : Fits (length (windowLinks b log)) blank blank blank
-    fits = window-fits b log blank blank blank (a .in-order) (a .log-room) long long long
+  module _ {ones others labels : List ℕ} {count : ℕ} (put : Put links 0 blank blank blank count ones others labels) where
+    fits : Fits (length links) blank blank blank
+    fits = window-fits clock counts log blank blank blank (a .readable) long long long
 
-    fronts : Fronts (windowLinks b log) count ones others labels
+    fronts : Fronts links count ones others labels
     fronts = put-fronts put fits
 
-    few : length (windowLinks b log) ≤ 4096
-    few = window-few b log (a .in-order) (a .log-room)
+    few : length links ≤ 4096
+    few = window-few clock counts log (a .readable)
 
-    pub gathered : Window ones others labels count (b .clock .n)
+    pub gathered : Window ones others labels count (clock .n)
     gathered =
         record {
           many = omega (arith, fronts .many, few);
-          n-most = readable b log (a .in-order) (a .log-room) .n-most;
-          ends = rw (put-read put fits) (window-ends b log);
-          falls = rw (put-read put fits) (window-falls b log);
+          n-most = a .readable .n-most;
+          ends = rw (put-read put fits) (window-ends clock counts log);
+          falls = rw (put-read put fits) (window-falls clock counts log);
         }
 
-    pub label-is : {j : ℕ} → j ≡ highest (suc (b .clock .n)) (linksIn ones others labels count) one other → j ≡ labelOf b log one other
+    pub label-is : {j : ℕ} → j ≡ highest (suc (clock .n)) (linksIn ones others labels count) one other → j ≡ label
     label-is e = rw (put-read put fits) at e
 
     pub room : (count ≤ length ones) × (count ≤ length others) × (count ≤ length labels)
@@ -176,12 +198,12 @@ module _ {b : Book} {log chain : List ℕ} {one other : ℕ} (a : Answerable b l
         let l = put-long put in
         (rw (← l .0) (gathered .many), rw (← l .1) (gathered .many), rw (← l .2) (gathered .many))
 
-    module _ {j : ℕ} (is : j ≡ labelOf b log one other) where
+    module _ {j : ℕ} (is : j ≡ label) where
       pub asked : 0 < j → Asked (sideFrom j labels count ones) (sideFrom j labels count others) one other chain
       asked joined =
-          side-asked (window-falls b log) fronts j (window-ends b log) few (a .one-cell) (a .other-cell) (a .chain-room) (chained is joined)
+          side-asked (window-falls clock counts log) fronts j (window-ends clock counts log) few (a .one-cell) (a .other-cell) (a .chain-room) (chained is joined)
 
       pub given : {r : ℕ} {after : List ℕ}
           → Given (trailOf (linksOf (sideFrom j labels count ones) (sideFrom j labels count others)) one other) chain r after
-          → Given (chainCells b log one other) chain r after
-      given g = rw (side-links (window-falls b log) fronts j, is) at g
+          → Given path chain r after
+      given g = rw (side-links (window-falls clock counts log) fronts j, is) at g

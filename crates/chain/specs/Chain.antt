@@ -4,15 +4,17 @@
 -- k + j - n and the hold is j - 1. A cell and itself are chained with no link at all, so j is then n + 1: L is k + 1 and the hold n.
 use Prim.Native.Nat.{ℕ, zero, suc, _+_, _-_, _≤_, _<_}
 use mathlib.Core.Path.{_≡_}
-use mathlib.Core.Bool.{true, _&&_}
+use mathlib.Core.Bool.{_&&_}
 use mathlib.Core.List.{List, [], _∷_, _++_}
 use lib.Dec.{leb, ltb}
 use lib.ListN.{length, drop}
-use Rattle.numbers.specs.Kinds.{Cell, Label, Log, Number}
+use Rattle.numbers.specs.Kinds.{Cell, Counts, Label, Log, Number}
 use Rattle.graph.specs.Trail.{trailOf}
 use Rattle.slides.specs.Clock.{openSlide}
+use Rattle.slides.specs.declared.Clock.{Clock}
 use Rattle.book_state.specs.declared.Book.{Book}
 use Rattle.book_state.specs.Arrays.{cells}
+use Rattle.book_state.specs.Log.{Readable}
 use Rattle.book_state.specs.Order.{inOrder}
 use Rattle.numbers.specs.Checks.{firstOf, unless, has}
 use Rattle.book_state.specs.Numbers.{logPlaces, areCells}
@@ -24,12 +26,20 @@ abbrev pub chainPlaces : ℕ
 chainPlaces = 1024
 
 -- the largest label such that the window's links from it on chain the two; 0 where no links do
-abbrev pub labelOf : (book : Book) (log : Log) (one other : Cell) → Label
-labelOf b log one other = highest (suc (b .clock .n)) (windowLinks b log) one other
+abbrev pub labelOf : (clock : Clock) (counts : Counts) (log : Log) (one other : Cell) → Label
+labelOf clock counts log one other = highest (suc (clock .n)) (windowLinks clock counts log) one other
 
 -- the chain handed back
-abbrev pub chainCells : (book : Book) (log : Log) (one other : Cell) → List Cell
-chainCells b log one other = trailOf (linksFromLabel (labelOf b log one other) (windowLinks b log)) one other
+abbrev pub chainCells : (clock : Clock) (counts : Counts) (log : Log) (one other : Cell) → List Cell
+chainCells clock counts log one other =
+    trailOf (linksFromLabel (labelOf clock counts log one other) (windowLinks clock counts log)) one other
+
+-- what the window is asked: 7 and 8
+abbrev pub windowChecks : (clock : Clock) (counts : Counts) (log : Log) (one other : Cell) → List Number
+windowChecks clock counts log one other =
+    unless (ltb 0 (labelOf clock counts log one other)) 7
+    ∷ unless (leb (length (chainCells clock counts log one other)) 1024) 8
+    ∷ []
 
 unfoldable pub chainNumber : (book : Book) (log : Log) (chain : List Cell) (one other : Cell) → Number
 chainNumber b log chain one other =
@@ -37,29 +47,32 @@ chainNumber b log chain one other =
     (unless (inOrder b) 1
     ∷ unless (has logPlaces log && has chainPlaces chain) 6
     ∷ unless (areCells one other) 3
-    ∷ unless (ltb 0 (labelOf b log one other)) 7
-    ∷ unless (leb (length (chainCells b log one other)) 1024) 8
-    ∷ [])
+    ∷ windowChecks (b .clock) (b .counts) log one other)
 
 -- the answer, and what the chain buffer holds afterwards
 pub record ChainOutcome : Type 0 where
   pub answer : ChainAnswer
-  pub chain : List ℕ
+  pub chain : List Cell
 
 -- by the number; the chain is written to the front of the buffer, and later places keep what they had
-unfoldable pub chainByNumber : (number : Number) (book : Book) (log : Log) (chain : List Cell) (one other : Cell) → ChainOutcome
-chainByNumber zero b log chain one other =
-    let j : ℕ = labelOf b log one other in
-    let cs : List ℕ = chainCells b log one other in
+unfoldable pub chainByNumber : (number : Number) (clock : Clock) (counts : Counts) (log : Log) (chain : List Cell) (one other : Cell) → ChainOutcome
+chainByNumber zero clock counts log chain one other =
+    let j : Label = labelOf clock counts log one other in
+    let cs : List Cell = chainCells clock counts log one other in
     record {
-      answer = record { newest = openSlide (b .clock) + j - b .clock .n; cells = length cs; hold = j - 1; number = 0 };
+      answer = record { newest = openSlide clock + j - clock .n; cells = length cs; hold = j - 1; number = 0 };
       chain = cs ++ drop (length cs) chain;
     }
-chainByNumber (suc k) b log chain one other =
+chainByNumber (suc k) clock counts log chain one other =
     record { answer = record { newest = 0; cells = 0; hold = 0; number = suc k }; chain = chain }
 
 unfoldable pub chainOf : (book : Book) (log : Log) (chain : List Cell) (one other : Cell) → ChainOutcome
-chainOf b log chain one other = chainByNumber (chainNumber b log chain one other) b log chain one other
+chainOf b log chain one other = chainByNumber (chainNumber b log chain one other) (b .clock) (b .counts) log chain one other
+
+-- the same of the window alone, where numbers 1, 6 and 3 are not given
+abbrev pub windowChain : (clock : Clock) (counts : Counts) (log : Log) (chain : List Cell) (one other : Cell) → ChainOutcome
+windowChain clock counts log chain one other =
+    chainByNumber (firstOf (windowChecks clock counts log one other)) clock counts log chain one other
 
 -- an answer and a chain buffer are those of an outcome
 pub record GivesChain (o : ChainOutcome) (answer : ChainAnswer) (chain : List ℕ) : Type 0 where
@@ -67,9 +80,8 @@ pub record GivesChain (o : ChainOutcome) (answer : ChainAnswer) (chain : List �
   pub written : chain ≡ o .chain
 
 -- what is left where numbers 1, 6 and 3 are not given
-pub record Answerable (b : Book) (log chain : List ℕ) (one other : ℕ) : Type 0 where
-  pub in-order : inOrder b ≡ true
-  pub log-room : has logPlaces log ≡ true
+pub record Answerable (clock : Clock) (counts log chain : List ℕ) (one other : ℕ) : Type 0 where
+  pub readable : Readable (clock .n) counts log
   pub chain-room : chainPlaces ≤ length chain
   pub one-cell : one < cells
   pub other-cell : other < cells

@@ -1,6 +1,6 @@
-// The answer of the chain call for a book in order, two cells and buffers that are long enough.
+// The answer of the chain call for a window, two cells and buffers that are long enough.
 use super::ChainAnswer;
-use book_state::Book;
+use slides::Clock;
 ghost use mathlib.Core.Path.{_≡_};
 ghost use Prim.Native.Nat.{suc, _+_, _-_, _≤_, _<_};
 ghost use lib.ListN.{length, take};
@@ -10,7 +10,7 @@ ghost use Rattle.window.specs.Window.{highest};
 ghost use Rattle.window.specs.Gathered.{linksIn};
 ghost use Rattle.chain_fewest.specs.Lists.{linksOf};
 ghost use Rattle.chain_fewest.specs.Best.{Asked, Given};
-ghost use Rattle.chain.specs.Chain.{chainOf, GivesChain, Answerable};
+ghost use Rattle.chain.specs.Chain.{windowChain, GivesChain, Answerable};
 ghost use Rattle.chain.specs.Front.{frontOf, sideFrom, Window};
 
 // The number alone.
@@ -26,15 +26,22 @@ pub fn refused(number: u8) -> ChainAnswer
 }
 
 // What is left to refuse is 7 and 8.
-pub fn answer(book: Book, log: &[u16], one: u16, other: u16, chain: &mut [u16]) -> ChainAnswer
-    requires { ⌜ Answerable book (now log) (now chain) one other ⌝ }
-    ensures { λ r. ⌜ GivesChain (chainOf book (now (log .entry)) (now (chain .entry)) one other) r (now (chain .exit)) ⌝ }
+pub fn answer(
+    clock: Clock,
+    counts: &[u16; 32],
+    log: &[u16],
+    one: u16,
+    other: u16,
+    chain: &mut [u16],
+) -> ChainAnswer
+    requires { ⌜ Answerable clock (now counts) (now log) (now chain) one other ⌝ }
+    ensures { λ r. ⌜ GivesChain (windowChain clock (now (counts .entry)) (now (log .entry)) (now (chain .entry)) one other) r (now (chain .exit)) ⌝ }
 {
     let mut ones = [0u16; 4096];
     let mut others = [0u16; 4096];
     let mut labels = [0u8; 4096];
-    let count = window::gather(book, log, &mut ones, &mut others, &mut labels);
-    let n = book.clock.n;
+    let count = window::gather(clock, counts, log, &mut ones, &mut others, &mut labels);
+    let n = clock.n;
     let label = label_of(&ones, &others, &labels, count, n, one, other);
     if label == 0 {
         return refused(7);
@@ -43,7 +50,7 @@ pub fn answer(book: Book, log: &[u16], one: u16, other: u16, chain: &mut [u16]) 
     if 1024 < cells {
         return refused(8);
     }
-    let k = slides::open_slide(book.clock);
+    let k = slides::open_slide(clock);
     answered(k, n, label, cells)
 }
 

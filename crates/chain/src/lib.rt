@@ -2,7 +2,10 @@
 // further closings the two stay joined.
 mod answer; // answer.rt: the answer for a book in order, two cells and buffers that are long enough
 
-use book_state::Book;
+use cells::Fitting;
+use forest::PLACES;
+use slides::Clock;
+ghost use Rattle.book_state.specs.Order.{bookOf};
 ghost use Rattle.chain.specs.Chain.{chainOf, GivesChain};
 
 // What the chain call gives; with a number that is not 0 all else is 0.
@@ -17,19 +20,33 @@ pub struct ChainAnswer {
     pub number: u8,
 }
 
-// The chain is written to the front of the buffer; later places keep what they had, and where it is refused all do.
-pub fn chain(book: Book, log: &[u16], one: u16, other: u16, chain: &mut [u16]) -> ChainAnswer
-    ensures { λ r. ⌜ GivesChain (chainOf book (now (log .entry)) (now (chain .entry)) one other) r (now (chain .exit)) ⌝ }
+// The chain is written to the front of the buffer; later places keep what they had, and where it is refused all do. The
+// fields of the book are lent where they stand: no copy of the book is made.
+pub fn over_fields<'a>(
+    clock: Clock,
+    fitting: Fitting,
+    counts: &'a [u16; 32],
+    forward_parent: &'a [u16; PLACES],
+    forward_size: &'a [u16; PLACES],
+    backward_parent: &'a [u16; PLACES],
+    backward_size: &'a [u16; PLACES],
+    backward_label: &'a [u8; PLACES],
+    log: &[u16],
+    one: u16,
+    other: u16,
+    chain: &mut [u16],
+) -> ChainAnswer
+    ensures { λ r. ⌜ GivesChain (chainOf (bookOf clock fitting (now (counts .entry)) (now («forward_parent» .entry)) (now («forward_size» .entry)) (now («backward_parent» .entry)) (now («backward_size» .entry)) (now («backward_label» .entry))) (now (log .entry)) (now (chain .entry)) one other) r (now (chain .exit)) ⌝ }
 {
     let ordered = book_state::order::in_order(
-        book.clock,
-        book.fitting,
-        &book.counts,
-        &book.forward_parent,
-        &book.forward_size,
-        &book.backward_parent,
-        &book.backward_size,
-        &book.backward_label,
+        clock,
+        fitting,
+        counts,
+        forward_parent,
+        forward_size,
+        backward_parent,
+        backward_size,
+        backward_label,
     );
     if !ordered {
         return answer::refused(1);
@@ -46,5 +63,5 @@ pub fn chain(book: Book, log: &[u16], one: u16, other: u16, chain: &mut [u16]) -
     if 1024 <= other {
         return answer::refused(3);
     }
-    answer::answer(book, log, one, other, chain)
+    answer::answer(clock, counts, log, one, other, chain)
 }

@@ -20,7 +20,7 @@ ghost use Rattle.listing.specs.Listing.{listingOf, Lists};
 
 // A book that was never opened: every call but opening gives 1 for it.
 #[no_mangle]
-pub extern "C" fn kerb_value_never_opened() -> Book
+pub extern "C" fn kerb_never_opened() -> Book
     ensures { λ r. ⌜ r ≡ neverOpened ⌝ }
 {
     book_state::never_opened()
@@ -115,16 +115,29 @@ pub extern "C" fn kerb_joined(book: &Book, one: u16, other: u16) -> JoinedAnswer
 
 // The chain goes to the front of the buffer.
 #[no_mangle]
-pub extern "C" fn kerb_value_chain(
-    book: Book,
+pub extern "C" fn kerb_chain(
+    book: &Book,
     log: &[u16],
     one: u16,
     other: u16,
     chain: &mut [u16],
 ) -> ChainAnswer
-    ensures { λ r. ⌜ GivesChain (chainOf book (now (log .entry)) (now (chain .entry)) one other) r (now (chain .exit)) ⌝ }
+    ensures { λ r. ⌜ GivesChain (chainOf (now (book .entry)) (now (log .entry)) (now (chain .entry)) one other) r (now (chain .exit)) ⌝ }
 {
-    chain::chain(book, log, one, other, chain)
+    chain::over_fields(
+        book.clock,
+        book.fitting,
+        &book.counts,
+        &book.forward_parent,
+        &book.forward_size,
+        &book.backward_parent,
+        &book.backward_size,
+        &book.backward_label,
+        log,
+        one,
+        other,
+        chain,
+    )
 }
 
 // The settings of a link file, and how many records it has.

@@ -11,7 +11,7 @@ use lib.ListN.{length, getD}
 use Rattle.graph.specs.Forest.{Labelled}
 use Rattle.forest.specs.Arrays.{countFrom}
 use Rattle.forest.proofs.Fill.{getD-each}
-use Rattle.book_state.specs.declared.Book.{Book}
+use Rattle.slides.specs.declared.Clock.{Clock}
 use Rattle.book_state.specs.Arrays.{cells}
 use Rattle.window.specs.Window.{windowLinks}
 use Rattle.window_groups.specs.declared.Groups.{Groups}
@@ -54,19 +54,19 @@ told-short firsts {counts} {holds} small c h = go (leads c (getD firsts c 0) (ge
 
 -- ---- the groups of a window
 
-module _ (b : Book) (log : List ℕ) {g : Groups} (is : g ≡ groupsOf b log) where
+module _ (clock : Clock) (counts log : List ℕ) {g : Groups} (is : g ≡ groupsOf clock counts log) where
   abbrev xs : List Labelled
-  xs = windowLinks b log
+  xs = windowLinks clock counts log
 
-  pub groups-small : b .clock .n ≤ 16 → FewDigits (g .count) (g .hold)
+  pub groups-small : clock .n ≤ 16 → FewDigits (g .count) (g .hold)
   unfolding groupsOf
   groups-small n =
       rw is record {
         count-most = λ c h. rw (getD-each _ cells c 0 h) (group-few xs c);
-        hold-most = λ c h. rw (getD-each _ cells c 0 h) (omega (arith, hold-n (b .clock .n) xs (groupOf xs c)));
+        hold-most = λ c h. rw (getD-each _ cells c 0 h) (omega (arith, hold-n (clock .n) xs (groupOf xs c)));
       }
 
-  pub groups-lines : toldLines (g .first) (g .count) (g .hold) ≡ groupLines (b .clock .n) xs
+  pub groups-lines : toldLines (g .first) (g .count) (g .hold) ≡ groupLines (clock .n) xs
   unfolding groupsOf
   groups-lines = rw is (lines-agree _ _ 0 cells (λ c h. rw (getD-each _ cells c 0 (omega arith), getD-each _ cells c 0 (omega arith), getD-each _ cells c 0 (omega arith))))
 

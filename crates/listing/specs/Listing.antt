@@ -28,8 +28,8 @@ windowLine clock mounting = line windowWord (clock .n ∷ clock .b ∷ mounting 
 unfoldable pub bookText : (book : Book) (log : Log) → Bytes
 bookText b log =
     windowLine (b .clock) (b .fitting .mounting)
-    ++ groupLines (b .clock .n) (windowLinks b log)
-    ++ line linksWord (length (windowLinks b log) ∷ [])
+    ++ groupLines (b .clock .n) (windowLinks (b .clock) (b .counts) log)
+    ++ line linksWord (length (windowLinks (b .clock) (b .counts) log) ∷ [])
 
 -- by the number of the first record that is refused
 unfoldable pub playedText : (number : Number) (play : Play) → Bytes

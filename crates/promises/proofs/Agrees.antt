@@ -1,4 +1,4 @@
--- When a book and its log agree with a history: the clock and the mounting are the history's, each live place of the log
+-- When a book and its log agree with a history: the clock and the fitting are the history's, each live place of the log
 -- holds the links of its slide in order of arrival, and the arrays hold the two forests of RULES 3. Everything that is
 -- promised of books that calls have left follows from this; Keeps shows that calls keep it.
 use Prim.Native.Nat.{ℕ, _+_, _/_, _%_, _≤_, _<_}
@@ -27,7 +27,7 @@ pub data Falling : ℕ → List Stored → Type 0 where
 -- what is true of every history, whatever the book
 pub record Sensible (h : History) : Type 0 where
   pub range : InRange (h .clock)
-  pub held : heldInRange (h .clock .n) (h .clock .b) (h .mounting) ≡ true
+  pub held : heldInRange (h .clock .n) (h .clock .b) (h .fitting .mounting) ≡ true
   pub falling : Falling (openSlideIn h) (h .links)
   pub few : (t : ℕ) → howMany (slideLinks t (h .links)) ≤ 256
 
@@ -47,7 +47,7 @@ pub record Kept (h : History) (s : State) (t : ℕ) : Type 0 where
 pub record Agrees (h : History) (s : State) : Type 0 where
   pub sensible : Sensible h
   pub clock : s .book .clock ≡ h .clock
-  pub mounting : s .book .mounting ≡ h .mounting
+  pub fitting : s .book .fitting ≡ h .fitting
   pub room : has logPlaces (s .log) ≡ true
   pub counts-long : length (s .book .counts) ≡ 32
   pub counts-few : (spot : ℕ) → getD (s .book .counts) spot 0 ≤ 256

@@ -49,13 +49,13 @@ use Rattle.promises.proofs.JoinedIs.{joined-window}
 module _ {h : History} {s : State} (agrees : Agrees h s) (one other : ℕ) where
   -- the window's links as the book holds them, and the largest label such that those with that label or more chain the two
   abbrev held : List Labelled
-  held = windowLinks (s .book) (s .log)
+  held = windowLinks (s .book .clock) (s .book .counts) (s .log)
 
   abbrev label : ℕ
-  label = labelOf (s .book) (s .log) one other
+  label = labelOf (s .book .clock) (s .book .counts) (s .log) one other
 
   abbrev path : List ℕ
-  path = chainCells (s .book) (s .log) one other
+  path = chainCells (s .book .clock) (s .book .counts) (s .log) one other
 
   -- L
   abbrev newest : ℕ
@@ -89,7 +89,7 @@ module _ {h : History} {s : State} (agrees : Agrees h s) (one other : ℕ) where
 
   -- after n closings no link is left
   none-left : (c : ℕ) → h .clock .n ≤ c → Chained (closed h c) one other → one ≡ other
-  none-left c le x = chained-alone (λ y l. none-above (s .book) (s .log) (suc c) (omega (arith, n-is)) one y l) (chained-relink (window-book agrees c) x)
+  none-left c le x = chained-alone (λ y l. none-above (s .book .clock) (s .book .counts) (s .log) (suc c) (omega (arith, n-is)) one y l) (chained-relink (window-book agrees c) x)
 
   label-window : ltb 0 label ≡ chains (windowOf h) one other
   label-window =
@@ -177,7 +177,7 @@ module _ {h : History} {s : State} (agrees : Agrees h s) (one other : ℕ) where
 
     chain-gives : givesChain ours s chain one other .answer .number ≡ chainNumber (s .book) (s .log) chain one other
     unfolding chainOf chainByNumber
-    chain-gives = itself (λ k. chainByNumber k (s .book) (s .log) chain one other .answer .number) refl (λ k. refl) _
+    chain-gives = itself (λ k. chainByNumber k (s .book .clock) (s .book .counts) (s .log) chain one other .answer .number) refl (λ k. refl) _
 
     abbrev given : ChainOutcome
     given =
@@ -188,7 +188,7 @@ module _ {h : History} {s : State} (agrees : Agrees h s) (one other : ℕ) where
 
     chain-done : givesChain ours s chain one other .answer .number ≡ 0 → givesChain ours s chain one other ≡ given
     unfolding chainOf chainByNumber
-    chain-done e = ap (λ k. chainByNumber k (s .book) (s .log) chain one other) (sym chain-gives ∙ e) ∙ rw (agrees .clock)
+    chain-done e = ap (λ k. chainByNumber k (s .book .clock) (s .book .counts) (s .log) chain one other) (sym chain-gives ∙ e) ∙ rw (agrees .clock)
 
     -- ---- where it gives 0
 

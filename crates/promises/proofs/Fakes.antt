@@ -13,6 +13,7 @@ use lib.Seq.{take-append-seam}
 use Rattle.graph.specs.Link.{along, here, Chained, same, group, chains}
 use Rattle.graph.specs.Forest.{climb}
 use Rattle.graph.proofs.Chains.{chained-one, chains-false}
+use Rattle.settings.specs.Settings.{fittingOf}
 use Rattle.settings.specs.declared.Settings.{Settings}
 use Rattle.slides.specs.Clock.{notBefore, slideOf, placeOf, started, movedTo, clockInRange}
 use Rattle.cells.specs.Cell.{lorryCellOver}
@@ -87,7 +88,7 @@ abbrev settings : Settings
 settings = record { t0 = 0; b = 10; n = 3; mounting = 1 }
 
 abbrev start : State
-start = record { book = emptied (started settings) 1; log = replicate logPlaces 0 }
+start = record { book = emptied (started settings) (fittingOf settings); log = replicate logPlaces 0 }
 
 abbrev opened : List Call
 opened = opening settings ∷ []

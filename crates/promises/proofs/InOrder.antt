@@ -58,8 +58,8 @@ module _ {h : History} {s : State} (a : Agrees h s) where
       clock : clockInRange (s .book .clock) ≡ true
       clock = rw (a .clock) (in-range (h .clock) .1 (a .sensible .range))
 
-      settings : heldInRange (s .book .clock .n) (s .book .clock .b) (s .book .mounting) ≡ true
-      settings = rw (a .clock, a .mounting) (a .sensible .held)
+      settings : heldInRange (s .book .clock .n) (s .book .clock .b) (s .book .fitting .mounting) ≡ true
+      settings = rw (a .clock, a .fitting) (a .sensible .held)
 
       counts : every (within 0 257) 0 (s .book .counts) ≡ true
       counts = each-every (within 0 257) (s .book .counts) (λ i h. within-both 0 257 i _ zero-le (suc-le-suc-iff .1 (a .counts-few i)))

@@ -11,6 +11,7 @@ use mathlib.Core.Option.{Option, none, some}
 use lib.Dec.{ltb}
 use lib.ListN.{set, length-set}
 use borrow.Author.Tests.{ltb-true}
+use Rattle.cells.specs.declared.Fitting.{Fitting}
 use Rattle.settings.specs.declared.Settings.{Settings}
 use Rattle.cells.specs.Cell.{sectors, lorryCell}
 use Rattle.cells.specs.Cell.Laws.{lorry-is-cell}
@@ -106,17 +107,17 @@ module _ {h : History} {s : State} (a : Agrees h s) where
   clock-step tick (suc k) e = a
 
   -- what a link leaves, once time has moved: its cells are stored in the numbers of this mounting
-  abbrev linked : ℕ → ℕ → ℕ → ℕ → State
-  linked tick one other mounting =
-      stateOf (linkStored (movedBook (s .book) (s .log) tick) (s .log) (lorryCell mounting one) (lorryCell mounting other))
+  abbrev linked : ℕ → ℕ → ℕ → Fitting → State
+  linked tick one other fitting =
+      stateOf (linkStored (movedBook (s .book) (s .log) tick) (s .log) (lorryCell fitting one) (lorryCell fitting other))
 
   link-done : (tick one other : ℕ) → Taken (s .book) (s .log) tick one other
-      → Agrees (withLink (withTime h tick) (lorryLink h one other)) (linked tick one other (s .book .mounting))
+      → Agrees (withLink (withTime h tick) (lorryLink h one other)) (linked tick one other (s .book .fitting))
   link-done tick one other t =
-      subst⁻¹ (λ m. Agrees (withLink (withTime h tick) (lorryLink h one other)) (linked tick one other m)) (a .mounting)
+      subst⁻¹ (λ m. Agrees (withLink (withTime h tick) (lorryLink h one other)) (linked tick one other m)) (a .fitting)
       (link-agrees (time-agrees a tick later) (lorryLink h one other)
-      (lorry-is-cell sectors (h .mounting) one (ltb-true one cells (two .0)))
-      (lorry-is-cell sectors (h .mounting) other (ltb-true other cells (two .1)))
+      (lorry-is-cell sectors (h .fitting .mounting) one (ltb-true one cells (two .0)))
+      (lorry-is-cell sectors (h .fitting .mounting) other (ltb-true other cells (two .1)))
       (rw (moved-slide (h .clock) tick later, ← (stored-agrees a tick later)) (t .few)))
     where
       later : notBefore (h .clock) tick ≡ true

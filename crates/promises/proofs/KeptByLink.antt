@@ -160,7 +160,7 @@ module _ {h : History} {s : State} (a : Agrees h s) (l : Link) (one : l .one < c
       record {
         sensible = link-sensible;
         clock = a .clock;
-        mounting = a .mounting;
+        fitting = a .fitting;
         room = has-long logPlaces (new .log) (s .log) (paired-long (s .log) _ l) ∙ a .room;
         counts-long = length-set (s .book .counts) _ _ ∙ a .counts-long;
         counts-few = count-most;

@@ -12,7 +12,7 @@ use lib.Dec.{leb}
 use lib.ListN.{getD, drop, replicate}
 use borrow.Author.Tests.{eqb-true}
 use Rattle.graph.specs.Forest.{Labelled, forestOf}
-use Rattle.settings.specs.Settings.{inRange, takenNumber, heldInRange}
+use Rattle.settings.specs.Settings.{inRange, takenNumber, heldInRange, fittingOf}
 use Rattle.settings.specs.declared.Settings.{Settings}
 use Rattle.slides.specs.Clock.{started}
 use Rattle.slides.proofs.Slides.{in-range, started-in-range}
@@ -61,13 +61,13 @@ module _ (h : History) (bare : Bare h) where
       near (inr e) = omega arith
 
   pub emptied-agrees : (log : List ℕ) → Sensible h → has logPlaces log ≡ true
-      → Agrees h (record { book = emptied (h .clock) (h .mounting); log = log })
+      → Agrees h (record { book = emptied (h .clock) (h .fitting); log = log })
   unfolding emptied
   emptied-agrees log sensible room =
       record {
         sensible = sensible;
         clock = refl;
-        mounting = refl;
+        fitting = refl;
         room = room;
         counts-long = refl;
         counts-few = λ spot. rw (zeros 32 spot) zero-le;
@@ -93,6 +93,6 @@ begun-sensible s e =
     record { range = in-range (started s) .0 (started-in-range s e); held = taken-held s e; falling = none; few = λ t. zero-le }
 
 pub opening-agrees : (s : Settings) (log : List ℕ) → takenNumber s ≡ 0
-    → Agrees (begun s) (record { book = emptied (started s) (s .mounting); log = replicate logPlaces 0 ++ drop logPlaces log })
+    → Agrees (begun s) (record { book = emptied (started s) (fittingOf s); log = replicate logPlaces 0 ++ drop logPlaces log })
 unfolding ofSlides
 opening-agrees s log e = emptied-agrees (begun s) (λ wanted far. refl) _ (begun-sensible s e) (has-front logPlaces _)

@@ -82,7 +82,7 @@ module _ {h : History} {s : State} (a : Agrees h s) (tick : ℕ) (later : notBef
         record {
           sensible = time-sensible;
           clock = clock-then;
-          mounting = a .mounting;
+          fitting = a .fitting;
           room = a .room;
           counts-long = a .counts-long;
           counts-few = a .counts-few;
@@ -139,7 +139,7 @@ module _ {h : History} {s : State} (a : Agrees h s) (tick : ℕ) (later : notBef
         record {
           sensible = time-sensible;
           clock = clock-then;
-          mounting = a .mounting;
+          fitting = a .fitting;
           room = a .room;
           counts-long = rw new-counts (cleared-long _ (s .book .counts) (a .counts-long));
           counts-few = rw new-counts (cleared-few _ (s .book .counts) (a .counts-long) 256 (a .counts-few));
@@ -154,9 +154,9 @@ module _ {h : History} {s : State} (a : Agrees h s) (tick : ℕ) (later : notBef
   -- ---- further
 
   jump-agrees : (chunkIn then ≡ chunkIn h → ⊥) → (chunkIn then ≡ chunkIn h + 1 → ⊥)
-      → Agrees then (record { book = emptied (movedTo (s .book .clock) tick) (s .book .mounting); log = s .log })
+      → Agrees then (record { book = emptied (movedTo (s .book .clock) tick) (s .book .fitting); log = s .log })
   jump-agrees same next =
-      rw (clock-then, a .mounting)
+      rw (clock-then, a .fitting)
       (emptied-agrees then (λ wanted far. none-then wanted (λ t e. omega (arith, far t e, later-chunk, chunk-same t))) (s .log)
       time-sensible (a .room))
 

@@ -73,7 +73,7 @@ unfolding chainOf chainByNumber
 unchained s chain one other = go (chainNumber (s .book) (s .log) chain one other)
   where
     go : (k : ℕ) →
-        let o : ChainOutcome = chainByNumber k (s .book) (s .log) chain one other in
+        let o : ChainOutcome = chainByNumber k (s .book .clock) (s .book .counts) (s .log) chain one other in
         (o .answer .number ≡ 0 → ⊥) →
         o ≡ record { answer = record { newest = 0; cells = 0; hold = 0; number = o .answer .number }; chain = chain }
     go zero n = absurd (n refl)

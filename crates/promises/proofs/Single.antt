@@ -3,7 +3,7 @@
 -- the buckets says which entry stands at each place, and there is only one.
 use Prim.Native.Nat.{ℕ}
 use mathlib.Core.Path.{_≡_, refl, sym, _∙_}
-use mathlib.Core.List.{List}
+use mathlib.Core.List.{List, []}
 use Rattle.buckets.proofs.Listing.{one-listing}
 use Rattle.forest_cross.proofs.Joined.{one-answer}
 use Rattle.book.specs.declared.Answer.{Answer}
@@ -26,7 +26,7 @@ fields-give : (o : Outcome) → AtMostOne (FieldsGive o)
 fields-give o r s p q = λ i.
     (let a = equal _ _ (p .answered) (q .answered) i in
     let b = a .book in (
-      record { clock = b .clock; mounting = b .mounting; number = a .number },
+      record { clock = b .clock; fitting = b .fitting; number = a .number },
       b .counts,
       b .«forward_parent»,
       b .«forward_size»,
@@ -43,7 +43,7 @@ pub single : Single
 single =
     record {
       never-opened = equal;
-      in-order = λ clock mounting counts fp fs bp bs bl. equal;
+      in-order = λ clock fitting counts fp fs bp bs bl. equal;
       spot = λ clock slide. equal;
       stored = λ clock counts slide. equal;
       clear = λ places count. equal;
@@ -55,7 +55,8 @@ single =
         equal (r .4) (s .4) (p .backward-labels) (q .backward-labels) i,
       );
       move-to = λ clock counts fp fs bp bs bl log tick r s p q i. (
-          let b = equal _ _ (p 0) (q 0) i in
+          let none = record { mounting = 0; pad = [] } in
+          let b = equal _ _ (p none) (q none) i in
           (b .clock, b .counts, b .«forward_parent», b .«forward_size», b .«backward_parent», b .«backward_size», b .«backward_label»));
       opening = λ b log s. gives _;
       link = λ b log tick one other. gives _;
@@ -64,7 +65,7 @@ single =
       fields-link = λ b log tick one other. fields-give _;
       fields-clock = λ b log tick. fields-give _;
       joined = λ b one other. equal;
-      gather = λ b log ones others labels r s p q i. (
+      gather = λ clock counts log ones others labels r s p q i. (
         equal (r .0) (s .0) (p .until) (q .until) i,
         equal (r .1) (s .1) (p .first) (q .first) i,
         equal (r .2) (s .2) (p .second) (q .second) i,
@@ -79,14 +80,14 @@ single =
       half-word = λ bytes place. equal;
       word = λ bytes place. equal;
       play = λ file m b log r s p q. both r s (p .played, p .logged) (q .played, q .logged);
-      of-window = λ b log. equal;
+      of-window = λ clock counts log. equal;
       put-word = λ word out at. written;
       put-fields = λ word numbers out at. written;
       put-line = λ word numbers out at. written;
       list = λ file out r s p q. both r s (p .answered, p .written) (q .answered, q .written);
       judge = λ s. equal;
       mirrored = λ cell. equal;
-      lorry-cell = λ mounting cell. equal;
+      lorry-cell = λ fitting cell. equal;
       start = λ s. equal;
       in-range = λ clock. equal;
       not-before = λ clock tick. equal;

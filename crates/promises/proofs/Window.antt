@@ -18,8 +18,8 @@ use Rattle.graph.specs.Forest.{Labelled, atLeast}
 use Rattle.graph.proofs.Chains.{Relinks, linked-left, linked-right, linked-append-cases}
 use Rattle.graph.proofs.Forests.{nothing-linked}
 use Rattle.slides.specs.Clock.{openSlide}
+use Rattle.slides.specs.declared.Clock.{Clock}
 use Rattle.slides.proofs.Slides.{place-rest}
-use Rattle.book_state.specs.declared.Book.{Book}
 use Rattle.book_state.specs.Log.{labelled}
 use Rattle.window.specs.Window.{windowSlides, linksOfAge, linksFromAge, windowLinks, linksFromLabel}
 use Rattle.promises.specs.History.{History, openSlideIn, slideLinks, linksOf, inWindow, windowAt}
@@ -54,46 +54,46 @@ module _ (j l : ℕ) (ls : List Link) (xs : List Labelled) (x y : ℕ) where
   label-right h = rw (label-append j l (ltb l j) refl ls xs) (linked-right (cond (ltb l j) [] ls) h)
 
 -- two cells are linked in a slide whose age is at least `from` and below `from + more`, and whose label is j or more
-record OfAge (b : Book) (log : List ℕ) (j from more x y : ℕ) : Type 0 where
+record OfAge (clock : Clock) (counts log : List ℕ) (j from more x y : ℕ) : Type 0 where
   pub age : ℕ
   pub least : from ≤ age
   pub below : age < from + more
-  pub label : j ≤ b .clock .n - age
-  pub linked : Linked x y (linksOfAge b log age)
+  pub label : j ≤ clock .n - age
+  pub linked : Linked x y (linksOfAge clock counts log age)
 
-module _ (b : Book) (log : List ℕ) (j : ℕ) where
+module _ (clock : Clock) (counts log : List ℕ) (j : ℕ) where
   -- a link with label j or more belongs to such a slide,
-  of-age : (from more x y : ℕ) → Linked x y (linksFromLabel j (linksFromAge b log from more)) → OfAge b log j from more x y
+  of-age : (from more x y : ℕ) → Linked x y (linksFromLabel j (linksFromAge clock counts log from more)) → OfAge clock counts log j from more x y
   unfolding linksFromAge atLeast
   of-age from zero x y h = absurd (nothing-linked h)
   of-age from (suc more) x y h =
       ⊎-elim (λ w. record { age = from; least = omega arith; below = omega arith; label = w .0; linked = w .1 })
-      (λ k. later (of-age (suc from) more x y k)) (label-cases j _ (linksOfAge b log from) _ x y h)
+      (λ k. later (of-age (suc from) more x y k)) (label-cases j _ (linksOfAge clock counts log from) _ x y h)
     where
-      later : OfAge b log j (suc from) more x y → OfAge b log j from (suc more) x y
+      later : OfAge clock counts log j (suc from) more x y → OfAge clock counts log j from (suc more) x y
       later i = record { age = i .age; least = omega arith; below = omega arith; label = i .label; linked = i .linked }
 
   -- and the links of such a slide have label j or more
-  age-of : (from more x y : ℕ) → OfAge b log j from more x y → Linked x y (linksFromLabel j (linksFromAge b log from more))
+  age-of : (from more x y : ℕ) → OfAge clock counts log j from more x y → Linked x y (linksFromLabel j (linksFromAge clock counts log from more))
   unfolding linksFromAge
   age-of from zero x y i = absurd (omega arith)
   age-of from (suc more) x y i =
-      ⊎-elim (λ e. label-left j (b .clock .n - from) (linksOfAge b log from) _ x y (rw e (i .label)) (rw e (i .linked)))
-      (λ l. label-right j _ (linksOfAge b log from) _ x y
+      ⊎-elim (λ e. label-left j (clock .n - from) (linksOfAge clock counts log from) _ x y (rw e (i .label)) (rw e (i .linked)))
+      (λ l. label-right j _ (linksOfAge clock counts log from) _ x y
       (age-of (suc from) more x y (record { age = i .age; least = l; below = omega arith; label = i .label; linked = i .linked })))
       (eq-or-lt-of-le (i .least))
 
   -- there is no label above n
-  pub none-above : b .clock .n < j → (x y : ℕ) → Linked x y (linksFromLabel j (windowLinks b log)) → ⊥
+  pub none-above : clock .n < j → (x y : ℕ) → Linked x y (linksFromLabel j (windowLinks clock counts log)) → ⊥
   unfolding windowLinks
-  none-above over x y h = let i : OfAge b log j 0 (windowSlides b) x y = of-age 0 (windowSlides b) x y h in omega arith
+  none-above over x y h = let i : OfAge clock counts log j 0 (windowSlides clock) x y = of-age 0 (windowSlides clock) x y h in omega arith
 
 -- ---- of a book that agrees with a history: links by age are links by slide
 
 module _ {h : History} {s : State} (agrees : Agrees h s) where
   -- the log holds the links of a slide of the window, in order of arrival
   pub links-of-age : (age t : ℕ) → age + t ≡ openSlideIn h → age < h .clock .n →
-      linksOfAge (s .book) (s .log) age ≡ reverse (linksOf (slideLinks t (h .links)))
+      linksOfAge (s .book .clock) (s .book .counts) (s .log) age ≡ reverse (linksOf (slideLinks t (h .links)))
   links-of-age age t e young =
       rw (agrees .clock, back, place-rest (h .clock) (wide (agrees .sensible)) t, kept .count) (kept .links)
     where
@@ -108,23 +108,23 @@ module _ {h : History} {s : State} (agrees : Agrees h s) where
   clock-is = (ap openSlide (agrees .clock), ap (λ c. c .n) (agrees .clock))
 
   module _ (c : ℕ) where
-    pub book-window : Relinks (linksFromLabel (suc c) (windowLinks (s .book) (s .log))) (linksOf (windowAt h (openSlideIn h + c)))
+    pub book-window : Relinks (linksFromLabel (suc c) (windowLinks (s .book .clock) (s .book .counts) (s .log))) (linksOf (windowAt h (openSlideIn h + c)))
     unfolding windowLinks
-    book-window x y l = found (of-age (s .book) (s .log) (suc c) 0 (windowSlides (s .book)) x y l)
+    book-window x y l = found (of-age (s .book .clock) (s .book .counts) (s .log) (suc c) 0 (windowSlides (s .book .clock)) x y l)
       where
-        found : OfAge (s .book) (s .log) (suc c) 0 (windowSlides (s .book)) x y → Linked x y (linksOf (windowAt h (openSlideIn h + c)))
+        found : OfAge (s .book .clock) (s .book .counts) (s .log) (suc c) 0 (windowSlides (s .book .clock)) x y → Linked x y (linksOf (windowAt h (openSlideIn h + c)))
         found i =
             let same = clock-is in
             let t : ℕ = openSlideIn h - i .age in
             of-slide _ t (h .links) (rw (le-leb t (openSlideIn h + c) (omega arith)) (lt-ltb (openSlideIn h + c) (t + h .clock .n) (omega arith)))
             x y (turned-links _ x y (rw (links-of-age (i .age) t (omega arith) (omega arith)) at (i .linked)))
 
-    pub window-book : Relinks (linksOf (windowAt h (openSlideIn h + c))) (linksFromLabel (suc c) (windowLinks (s .book) (s .log)))
+    pub window-book : Relinks (linksOf (windowAt h (openSlideIn h + c))) (linksFromLabel (suc c) (windowLinks (s .book .clock) (s .book .counts) (s .log)))
     unfolding windowLinks
-    window-book x y l = age-of (s .book) (s .log) (suc c) 0 (windowSlides (s .book)) x y (found (in-slide _ (agrees .sensible .falling) x y l))
+    window-book x y l = age-of (s .book .clock) (s .book .counts) (s .log) (suc c) 0 (windowSlides (s .book .clock)) x y (found (in-slide _ (agrees .sensible .falling) x y l))
       where
         found : InSlide (inWindow (h .clock .n) (openSlideIn h + c)) (openSlideIn h) (h .links) x y →
-            OfAge (s .book) (s .log) (suc c) 0 (windowSlides (s .book)) x y
+            OfAge (s .book .clock) (s .book .counts) (s .log) (suc c) 0 (windowSlides (s .book .clock)) x y
         found i =
             let same = clock-is in
             let young : openSlideIn h + c < i .slide + h .clock .n = ltb-true _ _ (and-eq-true-iff (leb (i .slide) (openSlideIn h + c)) _ .0 (i .picked) .1) in

@@ -27,10 +27,10 @@ use Rattle.promises.proofs.Window.{links-of-age, book-window, window-bo
 
 module _ {h : History} {s : State} (agrees : Agrees h s) where
   held-told : Relinks (heldLinks s) (windowOf h)
-  held-told = rw (← (window-all (s .book) (s .log)), ← (closed-now h)) (book-window agrees 0)
+  held-told = rw (← (window-all (s .book .clock) (s .book .counts) (s .log)), ← (closed-now h)) (book-window agrees 0)
 
   told-held : Relinks (windowOf h) (heldLinks s)
-  told-held = rw (← (window-all (s .book) (s .log)), ← (closed-now h)) (window-book agrees 0)
+  told-held = rw (← (window-all (s .book .clock) (s .book .counts) (s .log)), ← (closed-now h)) (window-book agrees 0)
 
   same-chains : (a b : ℕ) → Chained (heldLinks s) a b ↔ Chained (windowOf h) a b
   same-chains a b = (chained-relink held-told, chained-relink told-held)
@@ -38,7 +38,7 @@ module _ {h : History} {s : State} (agrees : Agrees h s) where
   same-groups : (a b : ℕ) → areCells a b ≡ true → (firstOfGroup s a ≡ firstOfGroup s b) ↔ Chained (windowOf h) a b
   same-groups a b are =
       let two = and-eq-true-iff (ltb a cells) _ .0 are in
-      let told = rw (window-all (s .book) (s .log)) at (same-first (s .book) (s .log) a b (ltb-true _ _ (two .0)) (ltb-true _ _ (two .1))) in
+      let told = rw (window-all (s .book .clock) (s .book .counts) (s .log)) at (same-first (s .book .clock) (s .book .counts) (s .log) a b (ltb-true _ _ (two .0)) (ltb-true _ _ (two .1))) in
       (λ e. same-chains a b .0 (told .0 e), λ x. told .1 (same-chains a b .1 x))
 
   agrees-window : WindowIs s h

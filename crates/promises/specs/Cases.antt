@@ -12,7 +12,7 @@ use Rattle.numbers.specs.Kinds.{Cell, Log, Number, Slide}
 use Rattle.graph.specs.Link.{chains}
 use Rattle.graph.specs.Trail.{trailOf}
 use Rattle.graph.specs.Forest.{climb, atLeast}
-use Rattle.settings.specs.Settings.{takenNumber}
+use Rattle.settings.specs.Settings.{takenNumber, fittingOf}
 use Rattle.settings.specs.declared.Settings.{Settings}
 use Rattle.cells.specs.Cell.{lorryCellOver}
 use Rattle.slides.specs.Clock.{notBefore, slideOf, placeOf, started, movedTo, clockInRange}
@@ -162,14 +162,14 @@ script =
 
 -- what an opening that is taken leaves, whatever book and log it was given
 opened : (b : Book) (log : Log) (s : Settings) → takenNumber s ≡ 0 → has logPlaces log ≡ true →
-    openingOf b log s ≡ record { book = emptied (started s) (s .mounting); log = replicate logPlaces 0 ++ drop logPlaces log; number = 0 }
+    openingOf b log s ≡ record { book = emptied (started s) (fittingOf s); log = replicate logPlaces 0 ++ drop logPlaces log; number = 0 }
 unfolding openingOf openingNumber openingByNumber firstOf
 opened b log s taken room = rw (taken, room)
 
 -- so a script that begins with one goes on from there
 from-opening : (b : Book) (log : Log) (s : Settings) (ds : List Step) → takenNumber s ≡ 0 → has logPlaces log ≡ true →
     given (record { book = b; log = log }) (call (opening s) 0 ∷ ds)
-    ≡ called 0 ∷ given (record { book = emptied (started s) (s .mounting); log = replicate logPlaces 0 ++ drop logPlaces log }) ds
+    ≡ called 0 ∷ given (record { book = emptied (started s) (fittingOf s); log = replicate logPlaces 0 ++ drop logPlaces log }) ds
 unfolding given gives
 from-opening b log s ds taken room = ap (λ (o : Outcome). called (o .number) ∷ given (stateOf o) ds) (opened b log s taken room)
 
@@ -181,7 +181,7 @@ abbrev later : List Step
 later = drop 1 script
 
 -- for any log places from 16,384 on
-computed : (rest : Log) → given (record { book = emptied (started settings) 1; log = replicate logPlaces 0 ++ rest }) later ≡ stated later
+computed : (rest : Log) → given (record { book = emptied (started settings) (fittingOf settings); log = replicate logPlaces 0 ++ rest }) later ≡ stated later
 unfolding given stated gives openingOf linkOf clockOf joinedOf chainOf openingNumber openingByNumber stored linkNumber linkStored linkByNumber clockNumber clockByNumber parentSteps parentStepsAt stepLinks fourWalks joinedNumber joinedByNumber chainNumber chainByNumber highest windowLinks linksFromAge atLeast trailOf firstOf has cleared emptied stayed backwardOf turned movedByChunk movedBook inOrderOf linksAt chunkLinks united unitedAll every countFrom notBefore slideOf placeOf movedTo clockInRange lorryCellOver climb chains
 computed rest = refl
 

@@ -1,4 +1,4 @@
--- What has happened, told by the calls and the table (RULES 7) and never by a book: the clock, the mounting, and each accepted
+-- What has happened, told by the calls and the table (RULES 7) and never by a book: the clock, the fitting, and each accepted
 -- link with its slide and the lorry's cells. The window (RULES 2) and the two forests (RULES 3) are defined on it.
 --
 -- The clock is that of the crate slides. An opening starts it, links and clock calls move it, by the definitions that move a
@@ -11,9 +11,10 @@ use lib.Dec.{eqb, leb, ltb}
 use Rattle.numbers.specs.Kinds.{Cell, Number, Slide, Tick}
 use Rattle.graph.specs.Link.{Link}
 use Rattle.graph.specs.Forest.{Labelled}
-use Rattle.settings.specs.Settings.{takenNumber}
+use Rattle.settings.specs.Settings.{takenNumber, fittingOf}
 use Rattle.settings.specs.declared.Settings.{Settings}
 use Rattle.cells.specs.Cell.{lorryCell}
+use Rattle.cells.specs.declared.Fitting.{Fitting}
 use Rattle.slides.specs.Clock.{notBefore, slideOf, openSlide, started, movedTo}
 use Rattle.slides.specs.declared.Clock.{Clock}
 use Rattle.numbers.specs.Checks.{firstOf, unless}
@@ -33,7 +34,7 @@ pub record Stored : Type 0 where
 -- since the latest opening that gave 0 (RULES 2.13); the newest link stands at the front
 pub record History : Type 0 where
   pub clock : Clock
-  pub mounting : ℕ
+  pub fitting : Fitting
   pub links : List Stored
 
 -- the open slide k (RULES 2.4)
@@ -72,21 +73,21 @@ numberIn room h (clock tick) = unless (notBefore (h .clock) tick) 4
 
 -- a fresh history (RULES 2.13)
 abbrev pub begun : Settings → History
-begun s = record { clock = started s; mounting = s .mounting; links = [] }
+begun s = record { clock = started s; fitting = fittingOf s; links = [] }
 
 -- time moves (RULES 2.6, 2.7)
 abbrev pub withTime : (history : History) (tick : Tick) → History
-withTime h tick = record { clock = movedTo (h .clock) tick; mounting = h .mounting; links = h .links }
+withTime h tick = record { clock = movedTo (h .clock) tick; fitting = h .fitting; links = h .links }
 
 -- links arrive in the unit's numbers and are stored in the lorry's (RULES 1.6)
 abbrev pub lorryLink : (history : History) (one other : Cell) → Link
 lorryLink h one other =
-    record { one = lorryCell (h .mounting) one; other = lorryCell (h .mounting) other }
+    record { one = lorryCell (h .fitting) one; other = lorryCell (h .fitting) other }
 
 -- a link more, in the open slide (RULES 2.6)
 abbrev pub withLink : History → Link → History
 withLink h l =
-    record { clock = h .clock; mounting = h .mounting; links = record { slide = openSlideIn h; link = l } ∷ h .links }
+    record { clock = h .clock; fitting = h .fitting; links = record { slide = openSlideIn h; link = l } ∷ h .links }
 
 -- the history after a call that gave 0
 unfoldable pub added : History → Call → History

@@ -6,6 +6,7 @@ use mathlib.Core.List.{List, _++_, reverse}
 use lib.ListN.{length, getD, drop, replicate}
 use Rattle.settings.specs.Settings.{settingsNumber}
 use Rattle.settings.specs.declared.Settings.{Settings}
+use Rattle.cells.specs.declared.Fitting.{Fitting}
 use Rattle.cells.specs.Cell.{mirror, lorryCell}
 use Rattle.slides.specs.Clock.{notBefore, slideOf, openSlide, chunkOf, placeOf, started, movedTo, clockInRange}
 use Rattle.slides.specs.declared.Clock.{Clock}
@@ -56,7 +57,7 @@ FieldsGive o r = GivesFields o (r .0) (r .1) (r .2) (r .3) (r .4) (r .5) (r .6) 
 pub record Single : Type 0 where
   -- book_state
   pub never-opened : AtMostOne (λ r. r ≡ neverOpened)
-  pub in-order : (clock : Clock) (mounting : ℕ) (counts fp fs bp bs bl : List ℕ) → AtMostOne (λ r. r ≡ inOrderOf clock mounting counts fp fs bp bs bl)
+  pub in-order : (clock : Clock) (fitting : Fitting) (counts fp fs bp bs bl : List ℕ) → AtMostOne (λ r. r ≡ inOrderOf clock fitting counts fp fs bp bs bl)
   pub spot : (clock : Clock) (slide : ℕ) → AtMostOne (λ r. r ≡ spotOf (halfOf (chunkOf clock slide)) (placeOf clock slide))
   pub stored : (clock : Clock) (counts : List ℕ) (slide : ℕ) → AtMostOne (λ r. r ≡ storedIn clock counts slide)
   pub clear : (places : List ℕ) (count : ℕ) → AtMostOne (λ r. r ≡ replicate count 0 ++ drop count places)
@@ -64,7 +65,7 @@ pub record Single : Type 0 where
   pub freshen : AtMostOne {A = List ℕ × List ℕ × List ℕ × List ℕ × List ℕ} (λ r. Fresh (r .0) (r .1) (r .2) (r .3) (r .4))
   pub move-to : (clock : Clock) (counts fp fs bp bs bl log : List ℕ) (tick : ℕ) →
       AtMostOne {A = Clock × List ℕ × List ℕ × List ℕ × List ℕ × List ℕ × List ℕ}
-      (λ r. (mounting : ℕ) → bookOf (r .0) mounting (r .1) (r .2) (r .3) (r .4) (r .5) (r .6) ≡ movedBook (bookOf clock mounting counts fp fs bp bs bl) log tick)
+      (λ r. (fitting : Fitting) → bookOf (r .0) fitting (r .1) (r .2) (r .3) (r .4) (r .5) (r .6) ≡ movedBook (bookOf clock fitting counts fp fs bp bs bl) log tick)
   -- book
   pub opening : (b : Book) (log : List ℕ) (s : Settings) → AtMostOne {A = Answer × List ℕ} (λ r. Gives (openingOf b log s) (r .0) (r .1))
   pub link : (b : Book) (log : List ℕ) (tick one other : ℕ) →
@@ -76,8 +77,8 @@ pub record Single : Type 0 where
   -- book_joined, by value and over lent fields
   pub joined : (b : Book) (one other : ℕ) → AtMostOne (λ r. r ≡ joinedOf b one other)
   -- window
-  pub gather : (b : Book) (log ones others labels : List ℕ) →
-      AtMostOne {A = ℕ × List ℕ × List ℕ × List ℕ} (λ r. Put (windowLinks b log) 0 ones others labels (r .0) (r .1) (r .2) (r .3))
+  pub gather : (clock : Clock) (counts log ones others labels : List ℕ) →
+      AtMostOne {A = ℕ × List ℕ × List ℕ × List ℕ} (λ r. Put (windowLinks clock counts log) 0 ones others labels (r .0) (r .1) (r .2) (r .3))
   pub grow : (ones others labels : List ℕ) (count : ℕ) (before : Arrays) →
       AtMostOne (λ r. r ≡ unitedAll before (reverse (linksIn ones others labels count)))
   pub highest-label : (parent label : List ℕ) (top one other : ℕ) → AtMostOne (λ r. r ≡ agreeFrom top parent label one other)
@@ -97,7 +98,7 @@ pub record Single : Type 0 where
   pub play : (file : List ℕ) (m : ℕ) (b : Book) (log : List ℕ) →
       AtMostOne {A = Played × List ℕ} (λ r. Plays (playFrom file 0 m b log) (r .0) (r .1))
   -- window_groups
-  pub of-window : (b : Book) (log : List ℕ) → AtMostOne (λ r. r ≡ groupsOf b log)
+  pub of-window : (clock : Clock) (counts log : List ℕ) → AtMostOne (λ r. r ≡ groupsOf clock counts log)
   -- text
   pub put-word : (word out : List ℕ) (at : ℕ) → AtMostOne {A = ℕ × List ℕ} (λ r. Written word at out (r .0) (r .1))
   pub put-fields : (word numbers out : List ℕ) (at : ℕ) →
@@ -109,7 +110,7 @@ pub record Single : Type 0 where
   pub judge : (s : Settings) → AtMostOne (λ r. r ≡ settingsNumber s)
   -- cells
   pub mirrored : (cell : ℕ) → AtMostOne (λ r. r ≡ mirror cell)
-  pub lorry-cell : (mounting cell : ℕ) → AtMostOne (λ r. r ≡ lorryCell mounting cell)
+  pub lorry-cell : (fitting : Fitting) (cell : ℕ) → AtMostOne (λ r. r ≡ lorryCell fitting cell)
   -- slides
   pub start : (s : Settings) → AtMostOne (λ r. r ≡ started s)
   pub in-range : (clock : Clock) → AtMostOne (λ r. r ≡ clockInRange clock)

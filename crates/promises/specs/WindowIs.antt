@@ -16,16 +16,16 @@ use Rattle.promises.specs.Implementation.{State}
 
 -- the links of the window that a book and its log hold
 abbrev pub heldLinks : State → List Link
-heldLinks s = map (λ x. x .link) (windowLinks (s .book) (s .log))
+heldLinks s = map (λ x. x .link) (windowLinks (s .book .clock) (s .book .counts) (s .log))
 
 -- the smallest cell of a cell's group
 abbrev pub firstOfGroup : (state : State) (cell : Cell) → ℕ
-firstOfGroup s c = getD (groupsOf (s .book) (s .log) .first) c 0
+firstOfGroup s c = getD (groupsOf (s .book .clock) (s .book .counts) (s .log) .first) c 0
 
 pub record WindowIs (s : State) (h : History) : Type 0 where
   -- slide by slide the links are the same, repeats too, in order of arrival (RULES 2.5, 2.12); an age counts slides back from k
   pub slides : (age : ℕ) → age < h .clock .n → age ≤ openSlideIn h →
-      linksOfAge (s .book) (s .log) age ≡ reverse (linksOf (slideLinks (openSlideIn h - age) (h .links)))
+      linksOfAge (s .book .clock) (s .book .counts) (s .log) age ≡ reverse (linksOf (slideLinks (openSlideIn h - age) (h .links)))
   -- so they link the same cells and chain the same cells
   pub linked : (a b : ℕ) → Linked a b (heldLinks s) ↔ Linked a b (windowOf h)
   pub chained : (a b : ℕ) → Chained (heldLinks s) a b ↔ Chained (windowOf h) a b

@@ -3,16 +3,13 @@
 use Prim.Native.Nat.{ℕ, zero, suc, _≤_}
 use mathlib.Core.Path.{_≡_, refl, sym, ap, _∙_}
 use mathlib.Core.List.{List, [], _∷_, _++_, map}
-use mathlib.Core.Bool.{true}
 use native.Mathlib.Omega.{arith}
 use native.Mathlib.Nat.{zero-add}
 use lib.ListN.{length, take, drop, length-map}
 use lib.Seq.{sets, sets-eq, take-at}
 use Rattle.graph.specs.Forest.{Labelled}
-use Rattle.book_state.specs.declared.Book.{Book}
-use Rattle.book_state.specs.Order.{inOrder}
-use Rattle.numbers.specs.Checks.{has}
-use Rattle.book_state.specs.Numbers.{logPlaces}
+use Rattle.slides.specs.declared.Clock.{Clock}
+use Rattle.book_state.specs.Log.{Readable}
 use Rattle.window.specs.Window.{windowLinks}
 use Rattle.window.specs.Gathered.{onesOf, othersOf, labelsOf, Put, linksOn, linksIn}
 use Rattle.window.proofs.WindowLinks.{window-few}
@@ -31,10 +28,10 @@ pub record Fronts (xs : List Labelled) (r : ℕ) (ones others labels : List ℕ)
   pub third : take r labels ≡ labelsOf xs
 
 -- arrays of 4,096 have, for the links of a window
-pub window-fits : (b : Book) (log ones others labels : List ℕ) → inOrder b ≡ true → has logPlaces log ≡ true
-    → length ones ≡ 4096 → length others ≡ 4096 → length labels ≡ 4096 → Fits (length (windowLinks b log)) ones others labels
-window-fits b log ones others labels e room p q s =
-    let few : length (windowLinks b log) ≤ 4096 = window-few b log e room in
+pub window-fits : (clock : Clock) (counts log ones others labels : List ℕ) → Readable (clock .n) counts log
+    → length ones ≡ 4096 → length others ≡ 4096 → length labels ≡ 4096 → Fits (length (windowLinks clock counts log)) ones others labels
+window-fits clock counts log ones others labels r p q s =
+    let few : length (windowLinks clock counts log) ≤ 4096 = window-few clock counts log r in
     record { first = rw p few; second = rw q few; third = rw s few }
 
 on-shift : (a b c : ℕ) (ones others labels : List ℕ) (i n : ℕ)

@@ -14,7 +14,7 @@ use borrow.Author.Tests.{lt-ltb, le-ltb}
 use Rattle.graph.specs.Link.{Linked, here, there, Chained, same, chains}
 use Rattle.graph.specs.Forest.{Labelled, atLeast}
 use Rattle.graph.proofs.Chains.{chained-relink, chained-alone, chains-true, chains-false}
-use Rattle.book_state.specs.declared.Book.{Book}
+use Rattle.slides.specs.declared.Clock.{Clock}
 use Rattle.window.specs.Window.{windowLinks, linksFromLabel, highest}
 use Rattle.window.proofs.WindowLinks.{window-all, window-none}
 
@@ -87,22 +87,22 @@ highest-same xs a j = le-antisymm (highest-most xs a a j) (chained-highest xs a 
 
 -- ---- of the window's links
 
-module _ (b : Book) (log : List ℕ) (one other : ℕ) where
+module _ (clock : Clock) (counts log : List ℕ) (one other : ℕ) where
   abbrev top : ℕ
-  top = suc (b .clock .n)
+  top = suc (clock .n)
 
   abbrev label : ℕ
-  label = highest top (windowLinks b log) one other
+  label = highest top (windowLinks clock counts log) one other
 
   -- at least 1 exactly when the window's links chain the two
-  pub window-joined : (1 ≤ label) ↔ Chained (map (λ x. x .link) (windowLinks b log)) one other
+  pub window-joined : (1 ≤ label) ↔ Chained (map (λ x. x .link) (windowLinks clock counts log)) one other
   window-joined =
-      let both = highest-exactly (windowLinks b log) one other top 1 (le-refl 1) (omega arith) in
-      rw (← window-all b log) (both .1, both .0)
+      let both = highest-exactly (windowLinks clock counts log) one other top 1 (le-refl 1) (omega arith) in
+      rw (← window-all clock counts log) (both .1, both .0)
 
   -- at most n for different cells, since no link has the label n + 1
-  pub window-apart : (one ≡ other → ⊥) → label ≤ b .clock .n
-  window-apart apart = ⊎-elim (λ e. absurd (apart (alone e))) (λ l. omega arith) (eq-or-lt-of-le (highest-most (windowLinks b log) one other top))
+  pub window-apart : (one ≡ other → ⊥) → label ≤ clock .n
+  window-apart apart = ⊎-elim (λ e. absurd (apart (alone e))) (λ l. omega arith) (eq-or-lt-of-le (highest-most (windowLinks clock counts log) one other top))
     where
       no-link : {a c : ℕ} → Linked a c [] → ⊥
       no-link = elim [ ]
@@ -110,4 +110,4 @@ module _ (b : Book) (log : List ℕ) (one other : ℕ) where
       alone : label ≡ top → one ≡ other
       alone e =
           chained-alone (λ c. no-link)
-          (rw (window-none b log) at (highest-chained (windowLinks b log) one other top top (omega arith) (rw e (le-refl top))))
+          (rw (window-none clock counts log) at (highest-chained (windowLinks clock counts log) one other top top (omega arith) (rw e (le-refl top))))

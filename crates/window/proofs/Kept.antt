@@ -8,7 +8,7 @@ use native.Mathlib.Nat.{le-trans}
 use lib.Dec.{ltb}
 use lib.ListN.{length, getD, length-map}
 use Rattle.graph.specs.Link.{Link}
-use Rattle.book_state.specs.declared.Book.{Book}
+use Rattle.slides.specs.declared.Clock.{Clock}
 use Rattle.book_state.specs.Arrays.{cells}
 use Rattle.book_state.specs.Log.{keep, pairAt, labelled, linksAt}
 use Rattle.window.specs.Window.{slideLinks}
@@ -39,5 +39,5 @@ links-few log at (suc n) = go (ltb (pairAt log at .one) cells && ltb (pairAt log
     go false h = omega arith
 
 -- a slide has at most 256 links, if each count is such
-pub slide-few : (b : Book) (log : List ℕ) (age : ℕ) → ((spot : ℕ) → getD (b .counts) spot 0 ≤ 256) → length (slideLinks b log age) ≤ 256
-slide-few b log age few = rw length-map (le-trans (links-few log _ _) (few _))
+pub slide-few : (clock : Clock) (counts log : List ℕ) (age : ℕ) → ((spot : ℕ) → getD counts spot 0 ≤ 256) → length (slideLinks clock counts log age) ≤ 256
+slide-few clock counts log age few = rw length-map (le-trans (links-few log _ _) (few _))

@@ -8,7 +8,7 @@ use native.Mathlib.Nat.{add-zero, add-suc, suc-add}
 use lib.ListN.{length, getD, set, length-append}
 use lib.Seq.{sets}
 use Rattle.graph.specs.Forest.{Labelled}
-use Rattle.book_state.specs.declared.Book.{Book}
+use Rattle.slides.specs.declared.Clock.{Clock}
 use Rattle.book_state.specs.Log.{keep, pairAt, labelled, linksAt}
 use Rattle.window.specs.Window.{windowSlides, slideLinks, linksFromAge, windowLinks}
 use Rattle.window.specs.Gathered.{onesOf, othersOf, labelsOf, Put}
@@ -108,41 +108,41 @@ module _ {log : List ℕ} {start count label at : ℕ} {ones others labels : Lis
 
 -- ---- the slides of the window, of which the newest `age` are put
 
-pub record Slides (b : Book) (log ones others labels : List ℕ) (age end : ℕ) (ones′ others′ labels′ : List ℕ) : Type 0 where
-  pub within : age ≤ windowSlides b
+pub record Slides (clock : Clock) (counts log ones others labels : List ℕ) (age end : ℕ) (ones′ others′ labels′ : List ℕ) : Type 0 where
+  pub within : age ≤ windowSlides clock
   pub few : end ≤ age * 256
-  pub left : Left (windowLinks b log) 0 ones others labels (linksFromAge b log age (windowSlides b - age)) end ones′ others′ labels′
+  pub left : Left (windowLinks clock counts log) 0 ones others labels (linksFromAge clock counts log age (windowSlides clock - age)) end ones′ others′ labels′
 
-module _ {b : Book} {log ones others labels : List ℕ} where
-  pub slides-begin : Slides b log ones others labels 0 0 ones others labels
+module _ {clock : Clock} {counts log ones others labels : List ℕ} where
+  pub slides-begin : Slides clock counts log ones others labels 0 0 ones others labels
   unfolding windowLinks
   slides-begin =
-      let all : windowSlides b - 0 ≡ windowSlides b = omega arith in
+      let all : windowSlides clock - 0 ≡ windowSlides clock = omega arith in
       record { within = omega arith; few = omega arith; left = left-whole (cc) }
 
-  module _ {age end : ℕ} {ones′ others′ labels′ : List ℕ} (r : Slides b log ones others labels age end ones′ others′ labels′) where
-    pub slides-more : {end′ : ℕ} {ones″ others″ labels″ : List ℕ} → age < windowSlides b
-        → ((spot : ℕ) → getD (b .counts) spot 0 ≤ 256)
-        → Put (slideLinks b log age) end ones′ others′ labels′ end′ ones″ others″ labels″
-        → Slides b log ones others labels (age + 1) end′ ones″ others″ labels″
+  module _ {age end : ℕ} {ones′ others′ labels′ : List ℕ} (r : Slides clock counts log ones others labels age end ones′ others′ labels′) where
+    pub slides-more : {end′ : ℕ} {ones″ others″ labels″ : List ℕ} → age < windowSlides clock
+        → ((spot : ℕ) → getD counts spot 0 ≤ 256)
+        → Put (slideLinks clock counts log age) end ones′ others′ labels′ end′ ones″ others″ labels″
+        → Slides clock counts log ones others labels (age + 1) end′ ones″ others″ labels″
     unfolding linksFromAge
     slides-more h held put =
         record {
           within = omega arith;
-          few = omega (arith, r .few, put .until, slide-few b log age held);
+          few = omega (arith, r .few, put .until, slide-few clock counts log age held);
           left = left-put (r .left) front put;
         }
       where
-        front : linksFromAge b log age (windowSlides b - age)
-            ≡ slideLinks b log age ++ linksFromAge b log (age + 1) (windowSlides b - (age + 1))
+        front : linksFromAge clock counts log age (windowSlides clock - age)
+            ≡ slideLinks clock counts log age ++ linksFromAge clock counts log (age + 1) (windowSlides clock - (age + 1))
         front =
-            let one : windowSlides b - age ≡ suc (windowSlides b - (age + 1)) = omega arith in
+            let one : windowSlides clock - age ≡ suc (windowSlides clock - (age + 1)) = omega arith in
             let next : suc age ≡ age + 1 = omega arith in
             rw (one, next)
 
-    pub slides-end : windowSlides b ≤ age → Put (windowLinks b log) 0 ones others labels end ones′ others′ labels′
+    pub slides-end : windowSlides clock ≤ age → Put (windowLinks clock counts log) 0 ones others labels end ones′ others′ labels′
     unfolding linksFromAge
     slides-end h = left-none (r .left) none
       where
-        none : linksFromAge b log age (windowSlides b - age) ≡ []
-        none = let e : windowSlides b - age ≡ 0 = omega arith in rw e
+        none : linksFromAge clock counts log age (windowSlides clock - age) ≡ []
+        none = let e : windowSlides clock - age ≡ 0 = omega arith in rw e

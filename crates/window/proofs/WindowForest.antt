@@ -16,7 +16,7 @@ use Rattle.graph.specs.Forest.{Forest, Labelled, climb, walkAt, forestOf, atLea
 use Rattle.graph.proofs.Chains.{chained-relink, chains-true, chains-false}
 use Rattle.graph.proofs.Cut.{same-root-at}
 use Rattle.forest.specs.Arrays.{parentAtIn}
-use Rattle.book_state.specs.declared.Book.{Book}
+use Rattle.slides.specs.declared.Clock.{Clock}
 use Rattle.book_state.specs.Arrays.{cells, stepLimit, arraysOf, freshArrays, unitedAll}
 use Rattle.book_state.proofs.Built.{each-reverse, Holds, holds-all}
 use Rattle.window.specs.Window.{windowLinks, linksFromLabel, highest}
@@ -90,6 +90,6 @@ module _ {xs : List Labelled} {m : ℕ} (ends : EndsBelow cells xs) (falls : Fal
   agree-highest (suc j) one other = rw (agree-chains (suc j) one other, agree-highest j one other)
 
 -- the forest of the window's links, grown newest slide first
-pub window-highest : (b : Book) (log : List ℕ) {ps ss ls : List ℕ} → arraysOf ps ss ls ≡ unitedAll freshArrays (reverse (windowLinks b log))
-    → (j one other : ℕ) → agreeFrom j ps ls one other ≡ highest j (windowLinks b log) one other
-window-highest b log = agree-highest (window-ends b log) (window-falls b log)
+pub window-highest : (clock : Clock) (counts log : List ℕ) {ps ss ls : List ℕ} → arraysOf ps ss ls ≡ unitedAll freshArrays (reverse (windowLinks clock counts log))
+    → (j one other : ℕ) → agreeFrom j ps ls one other ≡ highest j (windowLinks clock counts log) one other
+window-highest clock counts log = agree-highest (window-ends clock counts log) (window-falls clock counts log)

@@ -13,13 +13,9 @@ use Rattle.graph.specs.Link.{Link}
 use Rattle.graph.specs.Forest.{Labelled, Each, empty, also, EndsBelow}
 use Rattle.graph.proofs.Cut.{each-map, all-at-least}
 use Rattle.slides.specs.Clock.{openSlide}
-use Rattle.book_state.specs.declared.Book.{Book}
+use Rattle.slides.specs.declared.Clock.{Clock}
 use Rattle.book_state.specs.Arrays.{cells}
 use Rattle.book_state.specs.Log.{Readable, pairAt, labelled, linksAt}
-use Rattle.book_state.specs.Order.{inOrder}
-use Rattle.numbers.specs.Checks.{has}
-use Rattle.book_state.specs.Numbers.{logPlaces}
-use Rattle.book_state.proofs.Checks.{readable}
 use Rattle.window.specs.Window as window
 use Rattle.window.specs.Window.{windowSlides, linksOfAge, slideLinks, linksFromAge, windowLinks}
 use Rattle.window.specs.Falls.{Falls, none}
@@ -47,54 +43,51 @@ kept-cells label log at (suc n) = go (ltb (pairAt log at .one) cells) (ltb (pair
     go true false p q on = on
     go false u p q on = on
 
-module _ (b : Book) (log : List ℕ) where
+module _ (clock : Clock) (counts log : List ℕ) where
   -- slide by slide
   each-slide : {P : Labelled → Type 0} (age more : ℕ)
-      → ((a : ℕ) → a < age + more → Each P (slideLinks b log a)) → Each P (linksFromAge b log age more)
+      → ((a : ℕ) → a < age + more → Each P (slideLinks clock counts log a)) → Each P (linksFromAge clock counts log age more)
   unfolding linksFromAge
   each-slide age zero g = empty
   each-slide age (suc more) g = each-append (g age (omega arith)) (each-slide (suc age) more (λ a h. g a (omega arith)))
 
-  pub window-ends : EndsBelow cells (windowLinks b log)
+  pub window-ends : EndsBelow cells (windowLinks clock counts log)
   unfolding windowLinks
-  window-ends = each-slide 0 (windowSlides b) (λ a h. kept-cells _ log _ _)
+  window-ends = each-slide 0 (windowSlides clock) (λ a h. kept-cells _ log _ _)
 
-  pub window-labels : Each (λ x. (1 ≤ x .label) × (x .label ≤ b .clock .n)) (windowLinks b log)
+  pub window-labels : Each (λ x. (1 ≤ x .label) × (x .label ≤ clock .n)) (windowLinks clock counts log)
   unfolding windowLinks
   window-labels =
-      each-slide 0 (windowSlides b) (λ a h. each-labelled (λ l. (1 ≤ l) × (l ≤ b .clock .n)) _ (omega arith, omega arith) (linksOfAge b log a))
+      each-slide 0 (windowSlides clock) (λ a h. each-labelled (λ l. (1 ≤ l) × (l ≤ clock .n)) _ (omega arith, omega arith) (linksOfAge clock counts log a))
 
   -- a slide before slide 0 has no links
-  pub window-oldest : Each (λ x. b .clock .n ≤ openSlide (b .clock) + x .label) (windowLinks b log)
+  pub window-oldest : Each (λ x. clock .n ≤ openSlide clock + x .label) (windowLinks clock counts log)
   unfolding windowLinks
   window-oldest =
-      each-slide 0 (windowSlides b)
-      (λ a h. each-labelled (λ l. b .clock .n ≤ openSlide (b .clock) + l) _ (omega arith) (linksOfAge b log a))
+      each-slide 0 (windowSlides clock)
+      (λ a h. each-labelled (λ l. clock .n ≤ openSlide clock + l) _ (omega arith) (linksOfAge clock counts log a))
 
-  falls-from : (age more : ℕ) → Falls (b .clock .n - age) (linksFromAge b log age more)
+  falls-from : (age more : ℕ) → Falls (clock .n - age) (linksFromAge clock counts log age more)
   unfolding linksFromAge
   falls-from age zero = none
-  falls-from age (suc more) = falls-slide _ (linksOfAge b log age) (le-refl _) (falls-higher (omega arith) (falls-from (suc age) more))
+  falls-from age (suc more) = falls-slide _ (linksOfAge clock counts log age) (le-refl _) (falls-higher (omega arith) (falls-from (suc age) more))
 
-  pub window-falls : Falls (b .clock .n) (windowLinks b log)
+  pub window-falls : Falls (clock .n) (windowLinks clock counts log)
   unfolding windowLinks
-  window-falls = falls-higher (omega arith) (falls-from 0 (windowSlides b))
+  window-falls = falls-higher (omega arith) (falls-from 0 (windowSlides clock))
 
   -- all have a label of 1 or more, and none one above n
-  pub window-all : window.linksFromLabel 1 (windowLinks b log) ≡ map (λ x. x .link) (windowLinks b log)
+  pub window-all : window.linksFromLabel 1 (windowLinks clock counts log) ≡ map (λ x. x .link) (windowLinks clock counts log)
   window-all = ap (map (λ x. x .link)) (all-at-least 1 (each-map (λ x p. p .0) window-labels))
 
-  pub window-none : window.linksFromLabel (suc (b .clock .n)) (windowLinks b log) ≡ []
-  window-none = ap (map (λ x. x .link)) (falls-none window-falls (suc (b .clock .n)) (omega arith))
+  pub window-none : window.linksFromLabel (suc (clock .n)) (windowLinks clock counts log) ≡ []
+  window-none = ap (map (λ x. x .link)) (falls-none window-falls (suc (clock .n)) (omega arith))
 
-  few-from : ((spot : ℕ) → getD (b .counts) spot 0 ≤ 256) → (age more : ℕ) → length (linksFromAge b log age more) ≤ more * 256
+  few-from : ((spot : ℕ) → getD counts spot 0 ≤ 256) → (age more : ℕ) → length (linksFromAge clock counts log age more) ≤ more * 256
   unfolding linksFromAge
   few-from held age zero = omega arith
-  few-from held age (suc more) = rw length-append (omega (arith, slide-few b log age held, few-from held (suc age) more))
+  few-from held age (suc more) = rw length-append (omega (arith, slide-few clock counts log age held, few-from held (suc age) more))
 
-  pub readable-few : Readable (b .clock .n) (b .counts) log → length (windowLinks b log) ≤ 4096
+  pub window-few : Readable (clock .n) counts log → length (windowLinks clock counts log) ≤ 4096
   unfolding windowLinks
-  readable-few r = omega (arith, few-from (r .few) 0 (windowSlides b), r .n-most)
-
-  pub window-few : inOrder b ≡ true → has logPlaces log ≡ true → length (windowLinks b log) ≤ 4096
-  window-few e room = readable-few (readable b log e room)
+  window-few r = omega (arith, few-from (r .few) 0 (windowSlides clock), r .n-most)

@@ -1,40 +1,40 @@
--- The links of the current window of a book and its log, for every book (RULES 2), and the
--- newest slide from which on links chain two cells ("Chain and hold").
+-- The links of the current window (RULES 2.5), by a book's clock and counts and its log, and the newest slide from which on
+-- links chain two cells (RULES 5).
 --
 -- Each link is labelled by its slide: n for the open slide k, n - 1 for the slide before it, and so on down to 1. So the links
 -- with label j or more are those of slides k + j - n to k, and a newer slide has a higher label.
 use Prim.Native.Nat.{ℕ, zero, suc, _+_, _-_, min}
 use mathlib.Core.Bool.{cond}
 use mathlib.Core.List.{List, [], _++_, map}
-use Rattle.numbers.specs.Kinds.{Cell, Label, Log}
+use Rattle.numbers.specs.Kinds.{Cell, Counts, Label, Log, Slide}
 use Rattle.graph.specs.Link.{Link, chains}
 use Rattle.graph.specs.Forest.{Labelled, atLeast}
 use Rattle.slides.specs.Clock.{openSlide, chunkOf, placeOf}
-use Rattle.book_state.specs.declared.Book.{Book}
+use Rattle.slides.specs.declared.Clock.{Clock}
 use Rattle.book_state.specs.Log.{halfOf, placeLinks, labelled}
 
 -- the open slide and the n - 1 slides before it, as far as they exist
-abbrev pub windowSlides : Book → ℕ
-windowSlides b = min (b .clock .n) (openSlide (b .clock) + 1)
+abbrev pub windowSlides : (clock : Clock) → ℕ
+windowSlides clock = min (clock .n) (openSlide clock + 1)
 
--- the links of the slide that is so many slides before the open one, in order of arrival
-abbrev pub linksOfAge : (book : Book) (log : Log) (age : ℕ) → List Link
-linksOfAge b log age =
-    let slide : ℕ = openSlide (b .clock) - age in
-    placeLinks (b .counts) log (halfOf (chunkOf (b .clock) slide)) (placeOf (b .clock) slide)
+-- the links of the slide `age` slides before the open one, in order of arrival
+abbrev pub linksOfAge : (clock : Clock) (counts : Counts) (log : Log) (age : ℕ) → List Link
+linksOfAge clock counts log age =
+    let slide : Slide = openSlide clock - age in
+    placeLinks counts log (halfOf (chunkOf clock slide)) (placeOf clock slide)
 
 -- each with its label
-abbrev pub slideLinks : (book : Book) (log : Log) (age : ℕ) → List Labelled
-slideLinks b log age = map (labelled (b .clock .n - age)) (linksOfAge b log age)
+abbrev pub slideLinks : (clock : Clock) (counts : Counts) (log : Log) (age : ℕ) → List Labelled
+slideLinks clock counts log age = map (labelled (clock .n - age)) (linksOfAge clock counts log age)
 
--- the links of so many slides, from an age on
-unfoldable pub linksFromAge : (book : Book) (log : Log) (age count : ℕ) → List Labelled
-linksFromAge b log age zero = []
-linksFromAge b log age (suc more) = slideLinks b log age ++ linksFromAge b log (suc age) more
+-- the links of `count` slides, the first of them of this age, each next one a slide older
+unfoldable pub linksFromAge : (clock : Clock) (counts : Counts) (log : Log) (age count : ℕ) → List Labelled
+linksFromAge clock counts log age zero = []
+linksFromAge clock counts log age (suc more) = slideLinks clock counts log age ++ linksFromAge clock counts log (suc age) more
 
 -- the links of the window, newest slide first
-unfoldable pub windowLinks : (book : Book) (log : Log) → List Labelled
-windowLinks b log = linksFromAge b log 0 (windowSlides b)
+unfoldable pub windowLinks : (clock : Clock) (counts : Counts) (log : Log) → List Labelled
+windowLinks clock counts log = linksFromAge clock counts log 0 (windowSlides clock)
 
 -- those with a label of j or more
 abbrev pub linksFromLabel : (j : Label) (links : List Labelled) → List Link

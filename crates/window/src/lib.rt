@@ -1,9 +1,9 @@
-// The links of the current window of a book and its log, newest slide first, and what their labelled forest tells: the
-// highest label from which on links chain two cells.
+// The links of the current window, newest slide first, and what their labelled forest tells: the highest label from which on
+// links chain two cells. Of a book, a window takes the clock and the counts alone.
 mod links; // links.rt: the links of a slide into arrays
 
-use book_state::Book;
 use forest::PLACES;
+use slides::Clock;
 ghost use mathlib.Core.Path.{_≡_};
 ghost use mathlib.Core.List.{reverse};
 ghost use Prim.Native.Nat.{_≤_};
@@ -17,28 +17,29 @@ ghost use Rattle.window.specs.Agree.{agreeFrom};
 // The links of the window into three arrays, newest slide first; the open slide's have the label n. Returns how many there
 // are: at most 16 slides of 256.
 pub fn gather(
-    book: Book,
+    clock: Clock,
+    counts: &[u16; 32],
     log: &[u16],
     ones: &mut [u16; 4096],
     others: &mut [u16; 4096],
     labels: &mut [u8; 4096],
 ) -> usize
-    requires { ⌜ Readable (book .clock .n) (book .counts) (now log) ⌝ }
+    requires { ⌜ Readable (clock .n) (now counts) (now log) ⌝ }
     ensures { λ r.
-        ⌜ Put (windowLinks book (now (log .entry))) 0 (now (ones .entry)) (now (others .entry)) (now (labels .entry))
+        ⌜ Put (windowLinks clock (now (counts .entry)) (now (log .entry))) 0 (now (ones .entry)) (now (others .entry)) (now (labels .entry))
         r (now (ones .exit)) (now (others .exit)) (now (labels .exit)) ⌝ }
 {
-    let k = slides::open_slide(book.clock);
-    let existing = links::window_slides(book.clock.n, k);
+    let k = slides::open_slide(clock);
+    let existing = links::window_slides(clock.n, k);
     let mut end = 0;
     let mut age: u8 = 0;
     while age < existing {
         end = links::put_slide(
-            book.clock,
-            &book.counts,
+            clock,
+            counts,
             log,
             k - age as u64,
-            book.clock.n - age,
+            clock.n - age,
             end,
             ones,
             others,

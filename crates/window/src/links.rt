@@ -16,10 +16,10 @@ pub fn window_slides(n: u8, k: u64) -> u8
 }
 
 // Puts the links of a slide.
-pub fn put_slide<'a>(
+pub fn put_slide(
     clock: Clock,
-    counts: &'a [u16; 32],
-    log: &'a [u16],
+    counts: &[u16; 32],
+    log: &[u16],
     slide: u64,
     label: u8,
     at: usize,

@@ -13,7 +13,7 @@ use Rattle.graph.proofs.Chains.{chained-group, chained-sym, chained-trans, chai
 use Rattle.forest.specs.Arrays.{countFrom}
 use Rattle.forest.proofs.Fill.{getD-each}
 use Rattle.book_state.specs.Arrays.{cells}
-use Rattle.book_state.specs.declared.Book.{Book}
+use Rattle.slides.specs.declared.Clock.{Clock}
 use Rattle.window.specs.Window.{windowLinks, linksFromLabel}
 use Rattle.window_groups.specs.Groups.{groupOf, smallest, groupsOf}
 use Rattle.window_groups.proofs.Cells.{in-count, in-filter, filter-in, filter-agree}
@@ -41,9 +41,9 @@ module _ (xs : List Labelled) where
   )
 
 -- of the groups that `of_window` gives
-pub same-first : (b : Book) (log : List ℕ) (c d : ℕ) → c < cells → d < cells →
-    (getD (groupsOf b log .first) c 0 ≡ getD (groupsOf b log .first) d 0) ↔ Chained (linksFromLabel 1 (windowLinks b log)) c d
+pub same-first : (clock : Clock) (counts log : List ℕ) (c d : ℕ) → c < cells → d < cells →
+    (getD (groupsOf clock counts log .first) c 0 ≡ getD (groupsOf clock counts log .first) d 0) ↔ Chained (linksFromLabel 1 (windowLinks clock counts log)) c d
 unfolding groupsOf
-same-first b log c d h k =
-    rw (getD-each (λ e. smallest (groupOf (windowLinks b log) e)) cells c 0 h, getD-each (λ e. smallest (groupOf (windowLinks b log) e)) cells d 0 k)
-    (same-smallest (windowLinks b log) c d h k)
+same-first clock counts log c d h k =
+    rw (getD-each (λ e. smallest (groupOf (windowLinks clock counts log) e)) cells c 0 h, getD-each (λ e. smallest (groupOf (windowLinks clock counts log) e)) cells d 0 k)
+    (same-smallest (windowLinks clock counts log) c d h k)

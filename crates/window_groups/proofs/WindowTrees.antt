@@ -9,7 +9,7 @@ use Rattle.graph.specs.Forest.{Labelled, Each, climb, forestOf}
 use Rattle.graph.proofs.Forests.{parent-below}
 use Rattle.graph.proofs.Cut.{each-map, label-of-step}
 use Rattle.forest.specs.Arrays.{parentIn, labelIn}
-use Rattle.book_state.specs.declared.Book.{Book}
+use Rattle.slides.specs.declared.Clock.{Clock}
 use Rattle.book_state.specs.Arrays.{stepLimit}
 use Rattle.book_state.proofs.Built.{each-reverse, Holds, holds-all}
 use Rattle.window.specs.Window.{windowLinks}
@@ -24,23 +24,23 @@ use Rattle.window_groups.proofs.Cells.{of-cells-agree}
 use Rattle.window_groups.proofs.GroupTrees.{Ordered, group-is-tree, tree-hold}
 use Rattle.window_groups.proofs.AtRoots.{Grown, AtRoots, first-at, count-at, least-at}
 
-module _ (b : Book) (log : List ℕ) where
+module _ (clock : Clock) (counts log : List ℕ) where
   abbrev united : List Labelled
-  united = reverse (windowLinks b log)
+  united = reverse (windowLinks clock counts log)
 
-  ordered : Ordered (b .clock .n) (windowLinks b log) united
+  ordered : Ordered (clock .n) (windowLinks clock counts log) united
   ordered =
       record {
-        ends = each-reverse (window-ends b log);
-        falls = falls-reverse (window-falls b log);
-        labels = each-reverse (window-labels b log);
-        chain = λ j one other. let both = chained-reverse j (windowLinks b log) in (both .1, both .0);
+        ends = each-reverse (window-ends clock counts log);
+        falls = falls-reverse (window-falls clock counts log);
+        labels = each-reverse (window-labels clock counts log);
+        chain = λ j one other. let both = chained-reverse j (windowLinks clock counts log) in (both .1, both .0);
       }
 
-  holds : Holds united (windowArrays b log)
-  holds = holds-all (each-reverse (window-ends b log))
+  holds : Holds united (windowArrays clock counts log)
+  holds = holds-all (each-reverse (window-ends clock counts log))
 
-  module _ {f : WindowForest} (is : f ≡ windowForestOf b log) where
+  module _ {f : WindowForest} (is : f ≡ windowForestOf clock counts log) where
     parents-are : parentIn (f .parent) ≡ forestOf stepLimit united .parent
     unfolding windowForestOf
     parents-are = ap (λ g. parentIn (g .parent)) is ∙ ap (λ g. g .parent) (holds .holds)
@@ -71,18 +71,18 @@ module _ (b : Book) (log : List ℕ) where
     abbrev tree : (ℕ → ℕ) → ℕ → List ℕ
     tree parent c = treeOf (λ d. climb parent stepLimit d .root) (climb parent stepLimit c .root)
 
-    tree-is : (c : ℕ) → tree (parentIn (f .parent)) c ≡ groupOf (windowLinks b log) c
+    tree-is : (c : ℕ) → tree (parentIn (f .parent)) c ≡ groupOf (windowLinks clock counts log) c
     tree-is c = ap (λ p. tree p c) parents-are ∙ sym (group-is-tree ordered c)
 
     hold-is : (c : ℕ)
-        → leastLabel (b .clock .n + 1) (parentIn (f .parent)) (labelIn (f .label)) (tree (parentIn (f .parent)) c) - 1
-        ≡ leastHold (b .clock .n) (windowLinks b log) (groupOf (windowLinks b log) c)
+        → leastLabel (clock .n + 1) (parentIn (f .parent)) (labelIn (f .label)) (tree (parentIn (f .parent)) c) - 1
+        ≡ leastHold (clock .n) (windowLinks clock counts log) (groupOf (windowLinks clock counts log) c)
     hold-is c =
-        ap₂ (λ p l. leastLabel (b .clock .n + 1) p l (tree p c) - 1) parents-are labels-are
-        ∙ sym (ap (leastHold (b .clock .n) (windowLinks b log)) (group-is-tree ordered c) ∙ tree-hold ordered _)
+        ap₂ (λ p l. leastLabel (clock .n + 1) p l (tree p c) - 1) parents-are labels-are
+        ∙ sym (ap (leastHold (clock .n) (windowLinks clock counts log)) (group-is-tree ordered c) ∙ tree-hold ordered _)
 
-    pub forest-groups : {roots : List ℕ} {t : Tallies} → AtRoots (b .clock .n) (f .parent) (f .label) roots t
-        → groupsAt roots t (f .count) ≡ groupsOf b log
+    pub forest-groups : {roots : List ℕ} {t : Tallies} → AtRoots (clock .n) (f .parent) (f .label) roots t
+        → groupsAt roots t (f .count) ≡ groupsOf clock counts log
     unfolding groupsAt groupsOf windowForestOf
     forest-groups told = λ i.
         record {

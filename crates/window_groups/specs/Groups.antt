@@ -4,12 +4,12 @@ use Prim.Native.Nat.{ℕ, suc, _-_, min}
 use mathlib.Core.Bool.{Bool, cond}
 use mathlib.Core.List.{List, [], _∷_, map}
 use lib.ListN.{length}
-use Rattle.numbers.specs.Kinds.{Cell, Log}
+use Rattle.numbers.specs.Kinds.{Cell, Counts, Log}
 use Rattle.graph.specs.Link.{chains}
 use Rattle.graph.specs.Forest.{Labelled}
 use Rattle.forest.specs.Arrays.{countFrom}
 use Rattle.book_state.specs.Arrays.{cells}
-use Rattle.book_state.specs.declared.Book.{Book}
+use Rattle.slides.specs.declared.Clock.{Clock}
 use Rattle.window.specs.Window.{windowLinks, linksFromLabel, highest}
 use Rattle.window_groups.specs.declared.Groups.{Groups}
 
@@ -48,12 +48,12 @@ abbrev pub ofCells : (ℕ → ℕ) → List ℕ
 ofCells f = map f (countFrom 0 cells)
 
 -- of each cell its group's smallest cell, number of cells and least hold; and the links of the window, repeats counted
-unfoldable pub groupsOf : (book : Book) (log : Log) → Groups
-groupsOf b log =
-    let xs : List Labelled = windowLinks b log in
+unfoldable pub groupsOf : (clock : Clock) (counts : Counts) (log : Log) → Groups
+groupsOf clock counts log =
+    let xs : List Labelled = windowLinks clock counts log in
     record {
       first = ofCells (λ c. smallest (groupOf xs c));
       count = ofCells (λ c. length (groupOf xs c));
-      hold = ofCells (λ c. leastHold (b .clock .n) xs (groupOf xs c));
+      hold = ofCells (λ c. leastHold (clock .n) xs (groupOf xs c));
       links = length xs;
     }

@@ -5,10 +5,10 @@ use mathlib.Core.Bool.{cond}
 use mathlib.Core.List.{List, [], _∷_, reverse}
 use lib.Dec.{eqb}
 use lib.ListN.{length, getD}
-use Rattle.numbers.specs.Kinds.{Cell, Label, Labels, Log, Parents}
+use Rattle.numbers.specs.Kinds.{Cell, Counts, Label, Labels, Log, Parents}
 use Rattle.forest.specs.Arrays.{countFrom, parentIn, labelIn}
 use Rattle.book_state.specs.Arrays.{Arrays, cells, freshArrays, unitedAll}
-use Rattle.book_state.specs.declared.Book.{Book}
+use Rattle.slides.specs.declared.Clock.{Clock}
 use Rattle.window.specs.Window.{windowLinks}
 use Rattle.window_groups.specs.declared.trees.WindowForest.{WindowForest}
 use Rattle.window_groups.specs.declared.trees.Tallies.{Tallies}
@@ -16,12 +16,12 @@ use Rattle.window_groups.specs.declared.Groups.{Groups}
 use Rattle.window_groups.specs.Groups.{filter, smallest, ofCells}
 
 -- the window's links united, newest slide first
-abbrev pub windowArrays : (book : Book) (log : Log) → Arrays
-windowArrays b log = unitedAll freshArrays (reverse (windowLinks b log))
+abbrev pub windowArrays : (clock : Clock) (counts : Counts) (log : Log) → Arrays
+windowArrays clock counts log = unitedAll freshArrays (reverse (windowLinks clock counts log))
 
-unfoldable pub windowForestOf : (book : Book) (log : Log) → WindowForest
-windowForestOf b log =
-    record { parent = windowArrays b log .parents; label = windowArrays b log .labels; count = length (windowLinks b log) }
+unfoldable pub windowForestOf : (clock : Clock) (counts : Counts) (log : Log) → WindowForest
+windowForestOf clock counts log =
+    record { parent = windowArrays clock counts log .parents; label = windowArrays clock counts log .labels; count = length (windowLinks clock counts log) }
 
 -- the root of a cell, in a list of the cells' roots
 abbrev pub rootIn : (roots : List ℕ) (cell : Cell) → ℕ

@@ -2,8 +2,8 @@
 // a cell's group is read off the forest, at the cell's root.
 mod trees; // trees.rt: the forest of a window's links, and what its trees tell
 
-use book_state::Book;
 use forest::PLACES;
+use slides::Clock;
 ghost use mathlib.Core.Path.{_≡_};
 ghost use Rattle.book_state.specs.Log.{Readable};
 ghost use Rattle.window_groups.specs.Groups.{groupsOf};
@@ -17,13 +17,13 @@ pub struct Groups {
     pub links: usize,
 }
 
-// The groups of a book's window.
-pub fn of_window(book: Book, log: &[u16]) -> Groups
-    requires { ⌜ Readable (book .clock .n) (book .counts) (now log) ⌝ }
-    ensures { λ r. ⌜ r ≡ groupsOf book (now (log .entry)) ⌝ }
+// The groups of a window.
+pub fn of_window(clock: Clock, counts: &[u16; 32], log: &[u16]) -> Groups
+    requires { ⌜ Readable (clock .n) (now counts) (now log) ⌝ }
+    ensures { λ r. ⌜ r ≡ groupsOf clock (now (counts .entry)) (now (log .entry)) ⌝ }
 {
-    let forest = trees::window_forest(book, log);
+    let forest = trees::window_forest(clock, counts, log);
     let root = forest::walks::roots(&forest.parent, 10);
-    let tallies = trees::tally(&root, &forest.parent, &forest.label, book.clock.n + 1);
+    let tallies = trees::tally(&root, &forest.parent, &forest.label, clock.n + 1);
     trees::at_roots(&root, tallies, forest.count)
 }

@@ -1,8 +1,8 @@
 // The groups of a window, read off the forest of its links: a group is a tree, and its least hold the smallest label of a parent
 // step in it, less 1. A pass from the last cell to the first stores at each cell's root, and another fetches it from there.
 use super::Groups;
-use book_state::Book;
 use forest::PLACES;
+use slides::Clock;
 ghost use mathlib.Core.Path.{_≡_};
 ghost use lib.ListN.{length};
 ghost use Rattle.book_state.specs.Log.{Readable};
@@ -16,14 +16,14 @@ pub struct WindowForest {
 }
 
 // The window's links united, newest slide first.
-pub fn window_forest(book: Book, log: &[u16]) -> WindowForest
-    requires { ⌜ Readable (book .clock .n) (book .counts) (now log) ⌝ }
-    ensures { λ r. ⌜ r ≡ windowForestOf book (now (log .entry)) ⌝ }
+pub fn window_forest(clock: Clock, counts: &[u16; 32], log: &[u16]) -> WindowForest
+    requires { ⌜ Readable (clock .n) (now counts) (now log) ⌝ }
+    ensures { λ r. ⌜ r ≡ windowForestOf clock (now (counts .entry)) (now (log .entry)) ⌝ }
 {
     let mut ones = [0u16; 4096];
     let mut others = [0u16; 4096];
     let mut labels = [0u8; 4096];
-    let count = window::gather(book, log, &mut ones, &mut others, &mut labels);
+    let count = window::gather(clock, counts, log, &mut ones, &mut others, &mut labels);
     let mut parent = forest::fresh_parents();
     let mut size = forest::fresh_sizes();
     let mut label = forest::fresh_labels();

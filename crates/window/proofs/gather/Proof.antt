@@ -11,22 +11,22 @@ use Rattle.window.proofs.gather.Statement.{statement}
 use Rattle.window.proofs.gather.Tie as tie
 
 abbrev Inv-loop : tie.InvT-loop
-Inv-loop log ones₀ others₀ labels₀ book k existing end₀ age₀ ones others labels end age =
-    Slides book log ones₀ others₀ labels₀ age end ones others labels
+Inv-loop clock counts log ones₀ others₀ labels₀ k existing end₀ age₀ ones others labels end age =
+    Slides clock counts log ones₀ others₀ labels₀ age end ones others labels
 
 abbrev μ-loop : tie.MeasureT-loop
-μ-loop log ones₀ others₀ labels₀ book k existing end₀ age₀ ones others labels end age = existing - age
+μ-loop clock counts log ones₀ others₀ labels₀ k existing end₀ age₀ ones others labels end age = existing - age
 
 -- what is read before the loop: the open slide, and how many slides the window has
 module _ (c : tie.After-window-slides Inv-loop μ-loop) where
   abbrev start : tie.Start Inv-loop μ-loop
-  start = c .before .before .before .before
+  start = c .before .before .before
 
-  opened : c .before .open-slide .result ≡ openSlide (start .args .t1 .clock)
+  opened : c .before .open-slide .result ≡ openSlide (start .args .clock)
   opened = c .before .open-slide .ensures
 
-  existing : c .window-slides .result ≡ windowSlides (start .args .t1)
-  existing = c .window-slides .ensures ∙ ap (λ k. min (start .args .t1 .clock .n) (k + 1)) opened
+  existing : c .window-slides .result ≡ windowSlides (start .args .clock)
+  existing = c .window-slides .ensures ∙ ap (λ k. min (start .args .clock .n) (k + 1)) opened
 
 open-slide-requires : tie.Need-open-slide-requires Inv-loop μ-loop
 open-slide-requires c κs = search needs
@@ -48,7 +48,7 @@ sub-put-slide-2 c = omega arith
 
 put-slide-requires : tie.Need-put-slide-requires Inv-loop μ-loop
 put-slide-requires c κs =
-    let head = c .before .before .before .before .before .before in
+    let head = c .before .before .before .before in
     let before = head .before .before in
     (start before .pre, omega (arith, existing before, start before .pre .n-most, head .loop-test .taken, head .before .loop .inv .few))
 
@@ -60,7 +60,7 @@ loop-less c = omega arith
 
 loop-again : tie.Need-loop-again Inv-loop μ-loop
 loop-again c =
-    let head = c .before .before .before .before .before .before .before in
+    let head = c .before .before .before .before .before in
     let before = head .before .before in
     slides-more (head .before .loop .inv) (rw (existing before) at (head .loop-test .taken)) (start before .pre .few)
     (rw (opened before) at (c .put-slide .ensures))

@@ -15,7 +15,7 @@ roots-requires c κs = search needs
 
 -- the forest of the window's links, and the roots of its cells
 grown : (c : tie.After-window-forest) → Grown (c .window-forest .result .parent) (c .window-forest .result .label)
-grown c = forest-grown _ _ (c .window-forest .ensures)
+grown c = forest-grown _ _ _ (c .window-forest .ensures)
 
 rooted : (c : tie.After-roots) → Roots (c .roots .result)
 rooted c = roots-below (grown (c .before .before .before .before)) (c .roots .ensures)
@@ -32,7 +32,7 @@ tally-requires c κs =
 told : (c : tie.After-tally)
     → (let roots = c .before .before .before .before .before .before in
     let forest = roots .before .before .before .before .window-forest .result in
-    AtRoots (roots .before .before .before .before .before .before .args .book .clock .n) (forest .parent) (forest .label) (roots .roots .result) (c .tally .result))
+    AtRoots (roots .before .before .before .before .before .before .args .clock .n) (forest .parent) (forest .label) (roots .roots .result) (c .tally .result))
 told c =
     let roots = c .before .before .before .before .before .before in
     record { grown = grown (roots .before .before .before .before); roots-are = roots .roots .ensures; tallies-are = c .tally .ensures }
@@ -41,7 +41,7 @@ at-roots-requires : tie.Need-at-roots-requires
 at-roots-requires c κs = (rooted (c .before .before .before .before .before .before .before), λ cell h. least-positive (told (c .before)) h)
 
 returns : tie.Need-returns
-returns c = c .at-roots .ensures ∙ forest-groups _ _ (c .before .before .before .before .before .before .before .before .before .before .before .before .window-forest .ensures) (told (c .before .before))
+returns c = c .at-roots .ensures ∙ forest-groups _ _ _ (c .before .before .before .before .before .before .before .before .before .before .before .before .window-forest .ensures) (told (c .before .before))
 
 pub of-window-spec : {M : Type 1} → statement M
 of-window-spec =

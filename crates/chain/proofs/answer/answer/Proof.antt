@@ -5,7 +5,6 @@ use mathlib.Core.Path.{_≡_}
 use native.Mathlib.Omega.{arith}
 use native.Mathlib.Nat.{pos-of-ne-zero}
 use Rattle.slides.proofs.Slides.{slide-fits}
-use Rattle.book_state.proofs.Checks.{readable}
 use Rattle.chain.specs.Chain.{labelOf}
 use Rattle.chain.proofs.ChainCall.{unjoined, too-long, answers, newest-is, gathered, label-is, put-long, room, asked, given}
 use borrow.Author.Needs.{needs}
@@ -17,16 +16,14 @@ abbrev start : tie.After-gather → tie.Start
 start c = c .before .before .before .before .before .before
 
 -- the label
-label : (c : tie.After-label-of) → (let args = start (c .before .before .before .before) .args in c .label-of .result ≡ labelOf (args .book) (args .log .now) (args .one) (args .other))
+label : (c : tie.After-label-of) → (let args = start (c .before .before .before .before) .args in c .label-of .result ≡ labelOf (args .clock) (args .counts .now) (args .log .now) (args .one) (args .other))
 label c = let d = c .before .before .before .before in label-is (start d .pre) (d .gather .ensures) (c .label-of .ensures)
 
 joined : (c : tie.Else1) → 0 < c .before .label-of .result
 joined c = pos-of-ne-zero (c .if1 .left)
 
 gather-requires : tie.Need-gather-requires
-gather-requires c κs =
-    let entry = c .before .before .before .before .before in
-    readable (entry .args .book) (entry .args .log .now) (entry .pre .in-order) (entry .pre .log-room)
+gather-requires c κs = c .before .before .before .before .before .pre .readable
 
 label-of-requires : tie.Need-label-of-requires
 label-of-requires c κs = let d = c .before .before .before in gathered (start d .pre) (d .gather .ensures)
@@ -72,7 +69,7 @@ answered-requires : tie.Need-answered-requires
 answered-requires c κs =
     let d = c .before .before .before .before .before .before .before .before .before .before in
     let entry = start (d .before .before .before .before) in
-    let clock = entry .args .book .clock in
+    let clock = entry .args .clock in
     let slide = c .open-slide .ensures in
     let some = joined (c .before .before .before .before .before .before .before .before .before) in (
       omega (arith, slide, slide-fits clock (clock .time) (omega (arith, entry .good))),

@@ -21,9 +21,9 @@ fresh-labels-requires c κs = search needs
 
 gathered : (c : tie.After-gather)
     → (let args = c .before .before .before .before .before .args in
-    Gathers (args .book) (args .log .now) (c .gather .result)
-    (c .gather .last .1 .1 .0) (c .gather .last .1 .1 .1 .0) (c .gather .last .1 .1 .1 .1 .0))
-gathered c = gathers _ _ (c .before .before .before .before .before .pre) refl refl refl (c .gather .ensures)
+    Gathers (args .clock) (args .counts .now) (args .log .now) (c .gather .result)
+    (c .gather .last .1 .1 .1 .0) (c .gather .last .1 .1 .1 .1 .0) (c .gather .last .1 .1 .1 .1 .1 .0))
+gathered c = gathers _ _ _ (c .before .before .before .before .before .pre) refl refl refl (c .gather .ensures)
 
 slice-aggregate-grow : tie.Need-slice-aggregate-grow
 slice-aggregate-grow c = sym (gathered (c .before .before .before .before) .first-long)
@@ -43,7 +43,7 @@ returns : tie.Need-returns
 returns c =
     let arrays = c .before .before .before .before .before .before .before in
     let g = gathered (arrays .before .before .before) in
-    forest-made _ _
+    forest-made _ _ _
     (arrays .before .before .fresh-parents .ensures) (arrays .before .fresh-sizes .ensures) (arrays .fresh-labels .ensures)
     (g .links) (g .many) (c .grow .ensures)
 

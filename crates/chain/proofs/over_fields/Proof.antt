@@ -1,0 +1,116 @@
+-- `chain::over_fields` meets its contract: the checks come in the order 1, 6, 3 (proofs/ChainCall.antt), and 7 and 8 are left to
+-- the answer.
+use mathlib.Core.Path.{_≡_, sym, _∙_}
+use mathlib.Core.Bool.{true}
+use borrow.Author.Tests.{le-leb, not-true, not-false}
+use Rattle.book_state.specs.declared.Book.{Book}
+use Rattle.book_state.specs.Order.{bookOf, inOrder}
+use Rattle.numbers.specs.Checks.{has}
+use Rattle.book_state.specs.Numbers.{logPlaces}
+use Rattle.numbers.proofs.Checks.{has-length}
+use Rattle.book_state.proofs.Checks.{readable}
+use Rattle.chain.proofs.ChainCall.{call-refused, out-of-order, short-log, short-chain, not-one, not-other, call-answered}
+use borrow.Author.Needs.{needs}
+use Rattle.chain.proofs.over_fields.Statement.{statement}
+use Rattle.chain.proofs.over_fields.Tie as tie
+
+-- the book of the lent fields, at the function's entry
+abbrev book : tie.Start → Book
+book c =
+    bookOf (c .args .clock) (c .args .fitting) (c .args .counts .now) (c .args .forward-parent .now) (c .args .forward-size .now) (c .args .backward-parent .now) (c .args .backward-size .now) (c .args .backward-label .now)
+
+-- the entry, from where number 1 is known
+abbrev entry : tie.After-in-order → tie.Start
+entry c = c .before .before .before .before .before .before .before .before .before
+
+ordered : (c : tie.Else1) → inOrder (book (entry (c .before))) ≡ true
+ordered c = sym (c .before .in-order .ensures) ∙ not-false _ (c .if1 .left)
+
+room : (c : tie.Else2) → has logPlaces (entry (c .before .before) .args .log .now) ≡ true
+room c = has-length _ _ ∙ le-leb _ _ (c .if2 .left)
+
+in-order-requires : tie.Need-in-order-requires
+in-order-requires c κs = search needs
+
+refused-requires : tie.Need-refused-requires
+refused-requires c κs = search needs
+
+returns : tie.Need-returns
+returns c =
+    let first = c .before .before in
+    call-refused _ _ _ _ _ (out-of-order _ _ _ _ _ (sym (first .in-order .ensures) ∙ not-true _ (c .before .if1 .taken))) (c .refused .ensures)
+
+refused-requires-2 : tie.Need-refused-requires-2
+refused-requires-2 c κs = search needs
+
+returns-2 : tie.Need-returns-2
+returns-2 c = call-refused _ _ _ _ _ (short-log _ _ _ _ _ (ordered (c .before .before)) (c .before .if2 .taken)) (c .refused2 .ensures)
+
+refused-requires-3 : tie.Need-refused-requires-3
+refused-requires-3 c κs = search needs
+
+returns-3 : tie.Need-returns-3
+returns-3 c =
+    let second = c .before .before in
+    call-refused _ _ _ _ _ (short-chain _ _ _ _ _ (ordered (second .before)) (room second) (c .before .if3 .taken)) (c .refused3 .ensures)
+
+refused-requires-4 : tie.Need-refused-requires-4
+refused-requires-4 c κs = search needs
+
+returns-4 : tie.Need-returns-4
+returns-4 c =
+    let third = c .before .before in
+    let second = third .before in
+    call-refused _ _ _ _ _ (not-one _ _ _ _ _ (ordered (second .before)) (room second) (third .if3 .left) (c .before .if4 .taken)) (c .refused4 .ensures)
+
+refused-requires-5 : tie.Need-refused-requires-5
+refused-requires-5 c κs = search needs
+
+returns-5 : tie.Need-returns-5
+returns-5 c =
+    let fourth = c .before .before in
+    let third = fourth .before in
+    let second = third .before in
+    call-refused _ _ _ _ _ (not-other _ _ _ _ _ (ordered (second .before)) (room second) (third .if3 .left) (fourth .if4 .left) (c .before .if5 .taken)) (c .refused5 .ensures)
+
+answer-requires : tie.Need-answer-requires
+answer-requires c κs =
+    let fourth = c .before .before in
+    let third = fourth .before in
+    let second = third .before in
+    record {
+      readable = readable _ _ (ordered (second .before)) (room second);
+      chain-room = third .if3 .left;
+      one-cell = fourth .if4 .left;
+      other-cell = c .before .if5 .left;
+    }
+
+same-length : tie.Need-same-length
+same-length c = search needs
+
+returns-6 : tie.Need-returns-6
+returns-6 c =
+    let fifth = c .before .before .before .before in
+    let fourth = fifth .before in
+    let third = fourth .before in
+    let second = third .before in
+    call-answered _ _ _ _ _ (ordered (second .before)) (room second) (third .if3 .left) (fourth .if4 .left) (fifth .if5 .left) (c .before .before .answer .ensures)
+
+pub over-fields-spec : {M : Type 1} → statement M
+over-fields-spec =
+    tie.close
+    (tie.spec
+    in-order-requires
+    refused-requires
+    returns
+    refused-requires-2
+    returns-2
+    refused-requires-3
+    returns-3
+    refused-requires-4
+    returns-4
+    refused-requires-5
+    returns-5
+    answer-requires
+    same-length
+    returns-6)
