@@ -4,6 +4,7 @@
 use Prim.Native.Nat.{ℕ}
 use mathlib.Core.Path.{_≡_, refl, sym, _∙_}
 use mathlib.Core.List.{List, []}
+use Rattle.cells.specs.declared.Fitting.{Fitting}
 use Rattle.buckets.proofs.Listing.{one-listing}
 use Rattle.forest_cross.proofs.Joined.{one-answer}
 use Rattle.book.specs.declared.Answer.{Answer}
@@ -55,7 +56,7 @@ single =
         equal (r .4) (s .4) (p .backward-labels) (q .backward-labels) i,
       );
       move-to = λ clock counts fp fs bp bs bl log tick r s p q i. (
-          let none = record { mounting = 0; pad = [] } in
+          let none : Fitting = record { mounting = 0; pad = [] } in
           let b = equal _ _ (p none) (q none) i in
           (b .clock, b .counts, b .«forward_parent», b .«forward_size», b .«backward_parent», b .«backward_size», b .«backward_label»));
       opening = λ b log s. gives _;
