@@ -59,3 +59,7 @@ mirror = mirrorOver sectors
 -- by the way the unit is fitted
 abbrev pub lorryCell : (fitting : Fitting) (cell : Cell) → Cell
 lorryCell fitting = lorryCellOver sectors (fitting .mounting)
+
+-- the unit's number of a lorry's cell: as mirroring twice changes nothing, the same way leads back (Laws, `there-and-back`)
+abbrev pub unitCell : (fitting : Fitting) (cell : Cell) → Cell
+unitCell = lorryCell

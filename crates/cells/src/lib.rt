@@ -3,7 +3,7 @@ mod table;
 
 use table::MIRROR;
 ghost use mathlib.Core.Path.{_≡_};
-ghost use Rattle.cells.specs.Cell.{mirror, lorryCell};
+ghost use Rattle.cells.specs.Cell.{sectors, ringOf, sectorOf, mirror, lorryCell, unitCell};
 
 // How a unit is fitted to its lorry (RULES 1.3).
 #[repr(C)]
@@ -34,4 +34,24 @@ pub fn lorry_cell(fitting: Fitting, cell: u16) -> u16
     } else {
         cell
     }
+}
+
+// The unit's number of a lorry's cell, the other way round. Mirroring twice changes nothing, so the way back is the way there.
+pub fn unit_cell(fitting: Fitting, cell: u16) -> u16
+    ensures { λ r. ⌜ r ≡ unitCell fitting cell ⌝ }
+{
+    lorry_cell(fitting, cell)
+}
+
+// The ring of a cell, and its sector.
+pub fn ring(cell: u16) -> u16
+    ensures { λ r. ⌜ r ≡ ringOf sectors cell ⌝ }
+{
+    cell / 64
+}
+
+pub fn sector(cell: u16) -> u16
+    ensures { λ r. ⌜ r ≡ sectorOf sectors cell ⌝ }
+{
+    cell % 64
 }

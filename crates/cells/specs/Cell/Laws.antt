@@ -11,7 +11,8 @@ use native.Mathlib.Nat.{add-zero, div-add-mod, div-eq-of-lt, div-lt-iff-lt-mul, 
 use native.Mathlib.Omega.{arith}
 use borrow.Author.Tests.{lt-ltb, le-ltb}
 use lib.Dec.{eqb}
-use Rattle.cells.specs.Cell.{cellsOver, cellAt, ringOf, sectorOf, mirrorSector, mirrorOver, lorryCellOver, mirror}
+use Rattle.cells.specs.declared.Fitting.{Fitting}
+use Rattle.cells.specs.Cell.{cellsOver, cellAt, ringOf, sectorOf, mirrorSector, mirrorOver, lorryCellOver, sectors, mirror, lorryCell, unitCell}
 
 -- RULES 1.4: 0 becomes 63, 64 becomes 127, 1023 becomes 960
 pub examples : map mirror (0 ∷ 64 ∷ 1023 ∷ []) ≡ 63 ∷ 127 ∷ 960 ∷ []
@@ -101,3 +102,10 @@ module _ (sectors : ℕ) where
   -- different cells have different numbers on the lorry
   pub lorry-injective : (mounting a b : ℕ) → lorryCellOver sectors mounting a ≡ lorryCellOver sectors mounting b → a ≡ b
   lorry-injective = by-mounting (λ f. (a b : ℕ) → f a ≡ f b → a ≡ b) (λ a b e. e) mirror-injective
+
+-- from the unit's number to the lorry's and back, and the other way round
+pub there-and-back : (fitting : Fitting) (c : ℕ) → (unitCell fitting (lorryCell fitting c) ≡ c) × (lorryCell fitting (unitCell fitting c) ≡ c)
+there-and-back fitting c = (back, back)
+  where
+    back : lorryCell fitting (lorryCell fitting c) ≡ c
+    back = by-mounting sectors (λ f. f (f c) ≡ c) refl (mirror-twice sectors c) (fitting .mounting)
