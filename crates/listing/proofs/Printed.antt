@@ -3,6 +3,7 @@ use Prim.Native.Nat.{ℕ, _^_, _≤_, _<_}
 use mathlib.Core.List.{[], _∷_}
 use native.Mathlib.Omega.{arith}
 use lib.ListN.{length}
+use Rattle.slides.specs.Clock.{tickLimit}
 use Rattle.text.specs.Text.{line}
 use Rattle.text.proofs.Decimal.{fields-length, field-short, line-length}
 use Rattle.listing.specs.Lines.{windowWord, groupWord, linksWord, refusedWord}
@@ -16,7 +17,7 @@ group-line-short c count hold h k l =
     let second = fields-length count (hold ∷ []) in
     omega (arith, field-short 3 c (omega arith), field-short 3 count (omega arith), field-short 1 hold (omega arith))
 
-pub window-line-short : (n b mounting slide : ℕ) → n < 2 ^ 8 → b < 2 ^ 32 → mounting < 2 ^ 8 → slide < 2 ^ 64
+pub window-line-short : (n b mounting slide : ℕ) → n < 2 ^ 8 → b < tickLimit → mounting < 2 ^ 8 → slide < 2 ^ 64
     → length (line windowWord (n ∷ b ∷ mounting ∷ slide ∷ [])) ≤ 47
 window-line-short n b mounting slide p q r s =
     let sum = line-length windowWord (n ∷ b ∷ mounting ∷ slide ∷ []) in

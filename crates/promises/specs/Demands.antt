@@ -59,7 +59,8 @@ AfterCalls p holds = (s : State) (cs : List Call) (h : History) → HasHistory s
 pub record Table (p : Implementation) : Type 0 where
   pub openings : (s : State) (settings : Settings) →
       gives p s (opening settings) .number ≡ firstOf (takenNumber settings ∷ unless (roomIn s) 6 ∷ [])
-  pub calls : (s : State) (cs : List Call) (h : History) → HasHistory s cs h → (c : Call) → gives p (after p s cs) c .number ≡ numberIn (roomIn s) h c
+  pub calls : (s : State) (cs : List Call) (h : History) → HasHistory s cs h → (c : Call) →
+      gives p (after p s cs) c .number ≡ numberIn (roomIn s) h c
   pub asks : AfterCalls p λ s h. (one other : ℕ) → p .joinedGives (s .book) one other .number ≡ unless (areCells one other) 3
 
 -- 1. for every book, log and chain buffer, altered ones too: a number that is not 0 leaves them as they were and the other fields 0

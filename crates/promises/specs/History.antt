@@ -58,7 +58,8 @@ slideLinks slide ss = ofSlides (λ t. eqb t slide) ss
 
 -- ---- the table
 
--- the number of a call once a book is open (RULES 7.1, 7.2): an opening 2 and 6, a link 3, 4 and 5, a clock 4
+-- the number of a call once a book is open (RULES 7.1, 7.2): an opening 2 and 6, a link 3, 4 and 5 (for a full slide, RULES 2.9),
+-- a clock 4
 unfoldable pub numberIn : (room : Bool) (history : History) (call : Call) → Number
 numberIn room h (opening s) = firstOf (takenNumber s ∷ unless room 6 ∷ [])
 numberIn room h (link tick one other) =

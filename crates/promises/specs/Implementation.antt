@@ -2,7 +2,7 @@
 -- stated of any implementation, so that they can be proved of ours and refuted for fakes (RULES 10.5).
 use Prim.Native.Nat.{ℕ}
 use mathlib.Core.List.{List, [], _∷_}
-use Rattle.numbers.specs.Kinds.{Cell}
+use Rattle.numbers.specs.Kinds.{Cell, Log, Tick}
 use Rattle.settings.specs.declared.Settings.{Settings}
 use Rattle.book_state.specs.declared.Book.{Book}
 use Rattle.book_joined.specs.declared.JoinedAnswer.{JoinedAnswer}
@@ -12,11 +12,11 @@ use Rattle.chain.specs.Chain.{ChainOutcome, chainOf}
 use Rattle.promises.specs.History.{Call, opening, link, clock}
 
 pub record Implementation : Type 0 where
-  pub openingGives : Book → List ℕ → Settings → Outcome
-  pub linkGives : Book → List ℕ → ℕ → ℕ → ℕ → Outcome
-  pub clockGives : Book → List ℕ → ℕ → Outcome
-  pub joinedGives : Book → ℕ → ℕ → JoinedAnswer
-  pub chainGives : Book → List ℕ → List ℕ → ℕ → ℕ → ChainOutcome
+  pub openingGives : (book : Book) (log : Log) (settings : Settings) → Outcome
+  pub linkGives : (book : Book) (log : Log) (tick : Tick) (one other : Cell) → Outcome
+  pub clockGives : (book : Book) (log : Log) (tick : Tick) → Outcome
+  pub joinedGives : (book : Book) (one other : Cell) → JoinedAnswer
+  pub chainGives : (book : Book) (log : Log) (chain : List Cell) (one other : Cell) → ChainOutcome
 
 abbrev pub ours : Implementation
 ours =

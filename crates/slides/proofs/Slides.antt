@@ -3,7 +3,7 @@
 -- A slide is chunk × n + place, with the place below n. So two slides that are d chunks apart are d × n apart, but for
 -- the difference of their places (`apart`). Hence a slide less than n later lies in the same chunk or in the next one,
 -- and in the next one it is less than n later exactly where its place is the lower: the window of the two forests.
-use Prim.Native.Nat.{ℕ, zero, suc, _+_, _-_, _*_, _/_, _%_, _^_, _≤_, _<_}
+use Prim.Native.Nat.{ℕ, zero, suc, _+_, _-_, _*_, _/_, _%_, _≤_, _<_}
 use mathlib.Core.Bool.{Bool, true, false, cond, _&&_, _||_, false≢true}
 use mathlib.Core.Logic.{_⊎_, inl, inr, _↔_, ⊎-elim}
 use mathlib.Core.List.{List}
@@ -15,7 +15,7 @@ use native.Mathlib.Omega.{arith}
 use Rattle.settings.specs.Settings.{takenNumber}
 use Rattle.settings.specs.declared.Settings.{Settings}
 use Rattle.slides.specs.declared.Clock.{Clock}
-use Rattle.slides.specs.Clock.{notBefore, slideOf, slideLimit, openSlide, chunkOf, placeOf, started, movedTo, clockInRange}
+use Rattle.slides.specs.Clock.{tickLimit, slideLimit, notBefore, slideOf, openSlide, chunkOf, placeOf, started, movedTo, clockInRange}
 
 -- ---- the clock and its ticks
 
@@ -80,13 +80,16 @@ module _ (clock : Clock) (tick : ℕ) where
   unfolding movedTo slideOf
   moved-slide e = rw e
 
-  -- a slide is below the limit; so the slide after it, and the first slide of its chunk, are 64-bit numbers
-  pub slide-fits : tick < 2 ^ 32 → slideOf clock tick < slideLimit
+  -- a slide is below its limit; so the slide after it, and the first slide of the next chunk, are 64-bit numbers
+  pub slide-fits : tick < tickLimit → slideOf clock tick < slideLimit
   unfolding slideOf
   slide-fits fits = lt-of-le-of-lt (le-trans (div-le-self (tick - clock .t0) (clock .b)) (sub-le tick (clock .t0))) fits
 
--- and none lower would do: where slides are one tick long from tick 0 on, the slide of the last tick is the one before the limit
-pub slide-last : (time n : ℕ) (pad : List ℕ) → slideOf (record { t0 = 0; b = 1; time = time; n = n; pad = pad }) (2 ^ 32 - 1) + 1 ≡ slideLimit
+pub open-fits : (clock : Clock) → clock .time < tickLimit → openSlide clock < slideLimit
+open-fits clock = slide-fits clock (clock .time)
+
+-- and no lower limit would do: where T0 is 0 and B is 1, the slide of the last tick is the last below it
+pub slide-last : (time n : ℕ) (pad : List ℕ) → slideOf (record { t0 = 0; b = 1; time = time; n = n; pad = pad }) (tickLimit - 1) + 1 ≡ slideLimit
 unfolding slideOf
 slide-last time n pad = refl
 

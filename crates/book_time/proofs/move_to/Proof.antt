@@ -7,7 +7,7 @@ use native.Mathlib.Nat.{div-le-self}
 use borrow.Author.Needs.{needs}
 use Rattle.cells.specs.declared.Fitting.{Fitting}
 use Rattle.slides.specs.Clock.{slideLimit, openSlide, chunkOf}
-use Rattle.slides.proofs.Slides.{slide-fits}
+use Rattle.slides.proofs.Slides.{open-fits}
 use Rattle.book_state.specs.declared.Book.{Book}
 use Rattle.book_state.specs.Order.{bookOf}
 use Rattle.book_time.specs.Time.{cleared, emptied, stayed, turned}
@@ -32,7 +32,7 @@ after c fitting = c .before .chunk2 .ensures ∙ ap (chunkOf (entry c .args .clo
 
 -- a slide is below its limit
 small : (c : tie.After-advanced) → openSlide (entry c .args .clock) < slideLimit
-small c = slide-fits (entry c .args .clock) (entry c .args .clock .time) (search needs)
+small c = open-fits (entry c .args .clock) (search needs)
 
 open-slide-requires : tie.Need-open-slide-requires
 open-slide-requires c κs = search needs

@@ -4,7 +4,7 @@ use Prim.Native.Nat.{_<_}
 use mathlib.Core.Path.{_≡_}
 use native.Mathlib.Omega.{arith}
 use native.Mathlib.Nat.{pos-of-ne-zero}
-use Rattle.slides.proofs.Slides.{slide-fits}
+use Rattle.slides.proofs.Slides.{open-fits}
 use Rattle.chain.specs.Chain.{labelOf}
 use Rattle.chain.proofs.ChainCall.{unjoined, too-long, answers, newest-is, gathered, label-is, put-long, room, asked, given}
 use borrow.Author.Needs.{needs}
@@ -72,7 +72,7 @@ answered-requires c κs =
     let clock = entry .args .clock in
     let slide = c .open-slide .ensures in
     let some = joined (c .before .before .before .before .before .before .before .before .before) in (
-      omega (arith, slide, slide-fits clock (clock .time) (omega (arith, entry .good))),
+      omega (arith, slide, open-fits clock (omega (arith, entry .good))),
       (omega (arith, slide, newest-is (entry .pre) (label d) some), some),
     )
 
