@@ -2,4 +2,4 @@ pub mod Bytes
 pub mod Cases
 pub mod Files
 pub mod Laws
-pub mod Parts
+pub mod Records

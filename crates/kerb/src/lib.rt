@@ -7,7 +7,7 @@ use book_joined::JoinedAnswer;
 use book_state::Book;
 use chain::ChainAnswer;
 use file::Reading;
-use listing::Listed;
+use listing::ListAnswer;
 use settings::Settings;
 ghost use mathlib.Core.Path.{_≡_};
 ghost use lib.ListN.{length};
@@ -16,7 +16,7 @@ ghost use Rattle.book_joined.specs.Joined.{joinedOf};
 ghost use Rattle.book.specs.Calls.{Gives, openingOf, linkOf, clockOf};
 ghost use Rattle.chain.specs.Chain.{chainOf, GivesChain};
 ghost use Rattle.file.specs.Format.{readOf, writeNumber, outputOf};
-ghost use Rattle.listing.specs.Listing.{listingOf, Lists};
+ghost use Rattle.listing.specs.Listing.{listingOf, GivesListing};
 
 // A book that was never opened: every call but opening gives 1 for it.
 #[no_mangle]
@@ -159,8 +159,8 @@ pub extern "C" fn kerb_write(s: Settings, records: &[u8], out: &mut [u8]) -> u8
 
 // What kerblist prints for a link file, at the front of the output.
 #[no_mangle]
-pub extern "C" fn kerb_list(file: &[u8], out: &mut [u8]) -> Listed
-    ensures { λ r. ⌜ Lists (listingOf (now (file .entry)) (now (out .entry))) r (now (out .exit)) ⌝ }
+pub extern "C" fn kerb_list(file: &[u8], out: &mut [u8]) -> ListAnswer
+    ensures { λ r. ⌜ GivesListing (listingOf (now (file .entry)) (now (out .entry))) r (now (out .exit)) ⌝ }
 {
     listing::list(file, out)
 }

@@ -1,5 +1,5 @@
--- The lines of the groups, one after the other. The arrays that the crate window_groups gives tell the lines that the definition asks for,
--- since they hold of each cell what the definition takes from its group; and a line has at most 19 bytes.
+-- The lines of the groups, one after the other. The lines from the arrays that window_groups gives are those of the groups,
+-- since the arrays hold for each cell what the definition takes from its group; and a line has at most 19 bytes.
 use Prim.Native.Nat.{ℕ, zero, suc, _+_, _≤_, _<_}
 use mathlib.Core.Path.{_≡_, refl, ap, _∙_}
 use mathlib.Core.Bool.{Bool, true, false}
@@ -18,7 +18,7 @@ use Rattle.window_groups.specs.declared.Groups.{Groups}
 use Rattle.window_groups.specs.Groups.{groupOf, groupsOf}
 use Rattle.window_groups.proofs.Cells.{group-few}
 use Rattle.window_groups.proofs.LeastHold.{hold-n}
-use Rattle.listing.specs.Lines.{leads, groupLineIf, linesOf, groupLines, toldLine, toldLines, FewDigits}
+use Rattle.listing.specs.Lines.{leads, groupLineIf, linesOf, groupLines, lineFromArrays, linesFromArrays, FewDigits}
 use Rattle.listing.proofs.Printed.{group-line-short}
 
 -- ---- one after the other
@@ -44,9 +44,9 @@ lines-agree f g i (suc n) e = rw (lines-agree f g (suc i) n (λ c h. e c (omega 
 
 -- ---- a line is short
 
-pub told-short : (firsts : List ℕ) {counts holds : List ℕ} → FewDigits counts holds → (c : ℕ) → c < cells → length (toldLine firsts counts holds c) ≤ 19
+pub array-line-short : (firsts : List ℕ) {counts holds : List ℕ} → FewDigits counts holds → (c : ℕ) → c < cells → length (lineFromArrays firsts counts holds c) ≤ 19
 unfolding groupLineIf
-told-short firsts {counts} {holds} small c h = go (leads c (getD firsts c 0) (getD counts c 0))
+array-line-short firsts {counts} {holds} small c h = go (leads c (getD firsts c 0) (getD counts c 0))
   where
     go : (t : Bool) → length (groupLineIf t c (getD counts c 0) (getD holds c 0)) ≤ 19
     go true = group-line-short c (getD counts c 0) (getD holds c 0) h (small .count-most c h) (small .hold-most c h)
@@ -66,7 +66,7 @@ module _ (clock : Clock) (counts log : List ℕ) {g : Groups} (is : g ≡ groups
         hold-most = λ c h. rw (getD-each _ cells c 0 h) (omega (arith, hold-n (clock .n) xs (groupOf xs c)));
       }
 
-  pub groups-lines : toldLines (g .first) (g .count) (g .hold) ≡ groupLines (clock .n) xs
+  pub groups-lines : linesFromArrays (g .first) (g .count) (g .hold) ≡ groupLines (clock .n) xs
   unfolding groupsOf
   groups-lines = rw is (lines-agree _ _ 0 cells (λ c h. rw (getD-each _ cells c 0 (omega arith), getD-each _ cells c 0 (omega arith), getD-each _ cells c 0 (omega arith))))
 

@@ -1,4 +1,4 @@
--- No line is long: its numbers have few digits.
+-- No line is long: its values have few digits.
 use Prim.Native.Nat.{ℕ, _^_, _≤_, _<_}
 use mathlib.Core.List.{[], _∷_}
 use native.Mathlib.Omega.{arith}

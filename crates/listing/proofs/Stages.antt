@@ -15,11 +15,11 @@ use Rattle.book.specs.declared.Answer.{Answer}
 use Rattle.book_state.specs.Order.{neverOpened}
 use Rattle.book_state.specs.Numbers.{logPlaces}
 use Rattle.book.specs.Calls.{Outcome, Gives, openingOf}
-use Rattle.listing.specs.declared.Listed.{Listed}
+use Rattle.listing.specs.declared.ListAnswer.{ListAnswer}
 use Rattle.file_play.specs.declared.Played.{Played}
 use Rattle.listing.specs.Lines.{refusedFile, refusedRecord}
-use Rattle.file_play.specs.Play.{Play, Plays, playFrom}
-use Rattle.listing.specs.Listing.{Lists, bookText, playedText, openedText, readText, listingText, outputPlaces, listedIf, listingOf}
+use Rattle.file_play.specs.Play.{Play, GivesPlay, playFrom}
+use Rattle.listing.specs.Listing.{GivesListing, bookText, playedText, openedText, readText, listingText, outputPlaces, listedIf, listingOf}
 use Rattle.file_play.proofs.Playing.{Ready, opening-ready, played-ready}
 
 -- a file that is taken has its records
@@ -32,12 +32,12 @@ read-size file {r} e fine = rw e (go (readNumber file) refl (sym (ap (λ a. a .n
     go (suc k) q n = absurd (omega arith)
 
 -- the length that is given is within the output
-pub listed-within : (file out : List ℕ) {answer : Listed} {out′ : List ℕ} → Lists (listingOf file out) answer out′
+pub listed-within : (file out : List ℕ) {answer : ListAnswer} {out′ : List ℕ} → GivesListing (listingOf file out) answer out′
     → answer .length ≤ length out′
 unfolding listingOf listedIf
 listed-within file out l = rw (l .answered, l .written) (within (leb outputPlaces (length out)))
   where
-    within : (t : Bool) → listedIf t (listingText file) out .listed .length ≤ length (listedIf t (listingText file) out .output)
+    within : (t : Bool) → listedIf t (listingText file) out .answer .length ≤ length (listedIf t (listingText file) out .output)
     within true = omega (arith, length-append (listingText file) (drop (length (listingText file)) out))
     within false = omega arith
 
@@ -95,7 +95,7 @@ module _ {file : List ℕ} {r : Reading} {start : Book} {a : Answer} {log : List
 pub record PlayedInto (file : List ℕ) (r : Reading) (start : Book) (a : Answer) (log : List ℕ) (p : Played) (log′ : List ℕ) : Type 0 where
   pub opening : Opened file r start a log
   pub opened : a .number ≡ 0
-  pub plays : Plays (playFrom file 0 (r .m) (a .book) log) p log′
+  pub plays : GivesPlay (playFrom file 0 (r .m) (a .book) log) p log′
 
 module _ {file : List ℕ} {r : Reading} {start : Book} {a : Answer} {log : List ℕ} {p : Played} {log′ : List ℕ}
     (s : PlayedInto file r start a log p log′) where

@@ -2,9 +2,10 @@
 use Prim.Native.Nat.{ℕ, zero, suc}
 use mathlib.Core.Path.{_≡_}
 use mathlib.Core.Bool.{Bool, true, false}
-use mathlib.Core.List.{List, [], _∷_, _++_}
+use mathlib.Core.List.{[], _∷_, _++_}
 use lib.Dec.{leb}
-use lib.ListN.{length, drop, replicate}
+use lib.ListN.{length, replicate}
+use Rattle.numbers.specs.Front.{atFront}
 use Rattle.numbers.specs.Kinds.{Bytes, Log, Number}
 use Rattle.slides.specs.Clock.{openSlide}
 use Rattle.slides.specs.declared.Clock.{Clock}
@@ -15,7 +16,7 @@ use Rattle.book_state.specs.Order.{neverOpened}
 use Rattle.book.specs.Calls.{Outcome, openingOf}
 use Rattle.book_state.specs.Numbers.{logPlaces}
 use Rattle.window.specs.Window.{windowLinks}
-use Rattle.listing.specs.declared.Listed.{Listed}
+use Rattle.listing.specs.declared.ListAnswer.{ListAnswer}
 use Rattle.listing.specs.Lines.{windowWord, linksWord, refusedFile, refusedRecord, groupLines}
 use Rattle.text.specs.Text.{line}
 use Rattle.file_play.specs.Play.{Play, playFrom}
@@ -51,29 +52,29 @@ readText zero file r =
 readText (suc k) file r = refusedFile (suc k)
 
 -- the whole output for a file
-unfoldable pub listingText : List ℕ → List ℕ
+unfoldable pub listingText : (file : Bytes) → Bytes
 listingText file =
     let r : Reading = readOf file in
     readText (r .number) file r
 
--- the output's bytes, at least
+-- how many bytes the output must have
 abbrev pub outputPlaces : ℕ
 outputPlaces = 20480
 
 -- what is given, and what the output holds afterwards
 pub record Listing : Type 0 where
-  pub listed : Listed
-  pub output : List ℕ
+  pub answer : ListAnswer
+  pub output : Bytes
 
 -- the text at the front of the output, and no byte beyond; an output that is too short is unchanged
 unfoldable pub listedIf : (fits : Bool) (text out : Bytes) → Listing
-listedIf true text out = record { listed = record { length = length text; number = 0 }; output = text ++ drop (length text) out }
-listedIf false text out = record { listed = record { length = 0; number = 6 }; output = out }
+listedIf true text out = record { answer = record { length = length text; number = 0 }; output = atFront text out }
+listedIf false text out = record { answer = record { length = 0; number = 6 }; output = out }
 
 unfoldable pub listingOf : (file out : Bytes) → Listing
 listingOf file out = listedIf (leb outputPlaces (length out)) (listingText file) out
 
 -- an answer and an output are those of a listing
-pub record Lists (l : Listing) (answer : Listed) (output : List ℕ) : Type 0 where
-  pub answered : answer ≡ l .listed
+pub record GivesListing (l : Listing) (answer : ListAnswer) (output : Bytes) : Type 0 where
+  pub answered : answer ≡ l .answer
   pub written : output ≡ l .output

@@ -6,7 +6,7 @@ use mathlib.Core.Bool.{Bool, true, false, false≢true}
 use mathlib.Core.List.{List, [], _∷_, _++_}
 use native.Mathlib.Omega.{arith}
 use lib.Dec.{leb, leb·zero, leb·suc-zero, leb·suc-suc}
-use lib.ListN.{length, replicate}
+use lib.ListN.{length, getD, replicate}
 use Rattle.numbers.specs.Checks.{firstOf, unless, has}
 
 -- ---- the first number that is not 0
@@ -15,6 +15,12 @@ pub first-passed : (k : ℕ) (ks : List ℕ) → firstOf (k ∷ ks) ≡ 0 → (k
 unfolding firstOf
 first-passed zero ks e = (refl, e)
 first-passed (suc k) ks e = absurd (omega arith)
+
+-- every check is passed
+pub all-passed : (ks : List ℕ) → firstOf ks ≡ 0 → (i : ℕ) → getD ks i 0 ≡ 0
+all-passed [] e i = refl
+all-passed (k ∷ ks) e zero = first-passed k ks e .0
+all-passed (k ∷ ks) e (suc i) = all-passed ks (first-passed k ks e .1) i
 
 pub first-found : (k : ℕ) (ks : List ℕ) → (k ≡ 0 → ⊥) → firstOf (k ∷ ks) ≡ k
 unfolding firstOf

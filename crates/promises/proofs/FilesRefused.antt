@@ -9,7 +9,8 @@ use native.Mathlib.Omega.{arith}
 use Rattle.file.proofs.Files.{refused-read, refused-write}
 use Rattle.book_state.specs.declared.Book.{Book}
 use Rattle.book.specs.Calls.{Outcome}
-use Rattle.file_play.specs.Play.{Play, tickAt, oneAt, otherAt, recordGives, playByNumber, playFrom}
+use Rattle.file.specs.Layout.{tickAt, oneAt, otherAt}
+use Rattle.file_play.specs.Play.{Play, recordGives, playByNumber, playFrom}
 use Rattle.listing.specs.Listing.{listedIf, listingOf}
 use Rattle.promises.specs.History.{link}
 use Rattle.promises.specs.Implementation.{gives}
@@ -17,7 +18,7 @@ use Rattle.promises.specs.Demands.{Stopped, FilesRefused}
 use Rattle.promises.proofs.Refused.{refused}
 
 -- an output that is too short is unchanged
-short-kept : (t : Bool) (text out : List ℕ) → (listedIf t text out .listed .number ≡ 0 → ⊥) → listedIf t text out .output ≡ out
+short-kept : (t : Bool) (text out : List ℕ) → (listedIf t text out .answer .number ≡ 0 → ⊥) → listedIf t text out .output ≡ out
 unfolding listedIf
 short-kept true text out failed = absurd (failed refl)
 short-kept false text out failed = refl

@@ -9,7 +9,7 @@ use Rattle.buckets.proofs.Listing.{one-listing}
 use Rattle.forest_cross.proofs.Joined.{one-answer}
 use Rattle.book.specs.declared.Answer.{Answer}
 use Rattle.book.specs.Calls.{Outcome, Gives}
-use Rattle.text.specs.Output.{Written}
+use Rattle.text.specs.Output.{WrittenAt}
 use Rattle.promises.specs.Single.{AtMostOne, FieldsGive, Single}
 
 -- two that equal a third
@@ -37,7 +37,7 @@ fields-give o r s p q = λ i.
       equal (r .7) (s .7) (p .logged) (q .logged) i,
     ))
 
-written : {text out : List ℕ} {at : ℕ} → AtMostOne {A = ℕ × List ℕ} (λ r. Written text at out (r .0) (r .1))
+written : {text out : List ℕ} {at : ℕ} → AtMostOne {A = ℕ × List ℕ} (λ r. WrittenAt text at out (r .0) (r .1))
 written r s p q = both r s (p .until, p .bytes) (q .until, q .bytes)
 
 pub single : Single

@@ -92,7 +92,7 @@ pub record FilesRefused : Type 0 where
   pub write : (s : Settings) (records out : List ℕ) → (writeNumber s (length records) (length out) ≡ 0 → ⊥) → outputOf s records out ≡ out
   pub play : (file : List ℕ) (m : ℕ) (b : Book) (log : List ℕ) → (playFrom file 0 m b log .number ≡ 0 → ⊥) →
       Stopped file 0 b log (playFrom file 0 m b log)
-  pub list : (file out : List ℕ) → (listingOf file out .listed .number ≡ 0 → ⊥) → listingOf file out .output ≡ out
+  pub list : (file out : List ℕ) → (listingOf file out .answer .number ≡ 0 → ⊥) → listingOf file out .output ≡ out
 
 -- the two forests of the history (RULES 3.4 to 3.9) and the cut (RULES 3.10)
 abbrev pub forwardForest : History → Forest

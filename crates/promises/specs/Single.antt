@@ -16,14 +16,15 @@ use Rattle.forest_unite.specs.declared.Merge.{Merge}
 use Rattle.forest_check.specs.Sound.{every, within, soundOf, labelsWithin}
 use Rattle.buckets.specs.Listed as lists
 use Rattle.forest_cross.specs.Across.{JoinedAcross}
-use Rattle.file.specs.Format.{readOf, writeNumber, outputOf, halfAt, wordAt}
+use Rattle.file.specs.Format.{readOf, writeNumber, outputOf}
+use Rattle.file.specs.Layout.{halfAt, wordAt}
 use Rattle.file_play.specs.declared.Played.{Played}
-use Rattle.file_play.specs.Play.{Plays, playFrom}
+use Rattle.file_play.specs.Play.{GivesPlay, playFrom}
 use Rattle.window_groups.specs.Groups.{groupsOf}
-use Rattle.text.specs.Output.{Written}
+use Rattle.text.specs.Output.{WrittenAt}
 use Rattle.text.specs.Text.{fields, line}
-use Rattle.listing.specs.declared.Listed.{Listed}
-use Rattle.listing.specs.Listing.{Lists, listingOf}
+use Rattle.listing.specs.declared.ListAnswer.{ListAnswer}
+use Rattle.listing.specs.Listing.{GivesListing, listingOf}
 use Rattle.book_state.specs.declared.Book.{Book}
 use Rattle.book.specs.declared.Answer.{Answer}
 use Rattle.book.specs.declared.fields.FieldsAnswer.{FieldsAnswer}
@@ -96,16 +97,16 @@ pub record Single : Type 0 where
   pub word : (bytes : List ℕ) (place : ℕ) → AtMostOne (λ r. r ≡ wordAt bytes place)
   -- file_play
   pub play : (file : List ℕ) (m : ℕ) (b : Book) (log : List ℕ) →
-      AtMostOne {A = Played × List ℕ} (λ r. Plays (playFrom file 0 m b log) (r .0) (r .1))
+      AtMostOne {A = Played × List ℕ} (λ r. GivesPlay (playFrom file 0 m b log) (r .0) (r .1))
   -- window_groups
   pub of-window : (clock : Clock) (counts log : List ℕ) → AtMostOne (λ r. r ≡ groupsOf clock counts log)
   -- text
-  pub put-word : (word out : List ℕ) (at : ℕ) → AtMostOne {A = ℕ × List ℕ} (λ r. Written word at out (r .0) (r .1))
+  pub put-word : (word out : List ℕ) (at : ℕ) → AtMostOne {A = ℕ × List ℕ} (λ r. WrittenAt word at out (r .0) (r .1))
   pub put-fields : (word numbers out : List ℕ) (at : ℕ) →
-      AtMostOne {A = ℕ × List ℕ} (λ r. Written (word ++ fields numbers) at out (r .0) (r .1))
-  pub put-line : (word numbers out : List ℕ) (at : ℕ) → AtMostOne {A = ℕ × List ℕ} (λ r. Written (line word numbers) at out (r .0) (r .1))
+      AtMostOne {A = ℕ × List ℕ} (λ r. WrittenAt (word ++ fields numbers) at out (r .0) (r .1))
+  pub put-line : (word numbers out : List ℕ) (at : ℕ) → AtMostOne {A = ℕ × List ℕ} (λ r. WrittenAt (line word numbers) at out (r .0) (r .1))
   -- listing
-  pub list : (file out : List ℕ) → AtMostOne {A = Listed × List ℕ} (λ r. Lists (listingOf file out) (r .0) (r .1))
+  pub list : (file out : List ℕ) → AtMostOne {A = ListAnswer × List ℕ} (λ r. GivesListing (listingOf file out) (r .0) (r .1))
   -- settings
   pub judge : (s : Settings) → AtMostOne (λ r. r ≡ settingsNumber s)
   -- cells

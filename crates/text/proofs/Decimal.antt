@@ -1,5 +1,5 @@
--- Numbers in decimal: a number below 10 is its one digit; any other is what stands before its last digit, in decimal, and
--- that digit. So a number below 10 ^ d has at most d digits, and a line's length is bounded by its numbers.
+-- Values in decimal: a value below 10 is its one digit; any other is a tenth of it in decimal, and then its last digit. So a
+-- value below 10 ^ d has at most d digits, and a line's length is bounded by its values.
 use Prim.Native.Nat.{ℕ, zero, suc, _+_, _*_, _/_, _^_, _≤_, _<_}
 use mathlib.Core.Path.{_≡_, refl, ap, _∙_}
 use mathlib.Core.List.{List, [], _∷_, _++_, append-assoc, append-nil}
@@ -42,13 +42,13 @@ decimal-short (suc d) x h = elim (decLt x 10) [
         let below : x < 10 * 10 ^ suc d = rw pow-succ' at h in
         rw (decimal-more x l) (omega (arith, length-append (decimal (x / 10)) (lastDigit x ∷ []), on (omega arith)))
 
--- the numbers one after the other
+-- the values one after the other
 pub fields-append : (xs ys : List ℕ) → fields (xs ++ ys) ≡ fields xs ++ fields ys
 unfolding fields
 fields-append [] ys = refl
 fields-append (x ∷ xs) ys = rw (fields-append xs ys, append-assoc)
 
--- a blank and the number
+-- a blank and the value
 pub field : (x : ℕ) → fields (x ∷ []) ≡ blank ∷ decimal x
 unfolding fields
 field x = simp append-nil
@@ -56,7 +56,7 @@ field x = simp append-nil
 pub fields-more : (xs : List ℕ) (i : ℕ) → i < length xs → fields (take (i + 1) xs) ≡ fields (take i xs) ++ fields (getD xs i 0 ∷ [])
 fields-more xs i h = rw (add-one, take-suc xs i 0 h) (fields-append (take i xs) (getD xs i 0 ∷ []))
 
--- what each number adds to the length
+-- what each value adds to the length
 pub fields-length : (x : ℕ) (xs : List ℕ) → length (fields (x ∷ xs)) ≡ length (fields (x ∷ [])) + length (fields xs)
 fields-length x xs = ap length (fields-append (x ∷ []) xs) ∙ length-append (fields (x ∷ [])) (fields xs)
 
@@ -66,7 +66,7 @@ field-short d x h = rw (field x) (omega (arith, decimal-short d x h))
 pub line-length : (word xs : List ℕ) → length (line word xs) ≡ length word + length (fields xs) + 1
 line-length word xs = length-append (word ++ fields xs) (lineFeed ∷ []) ∙ rw (length-append word (fields xs))
 
--- there is room for one number more
+-- there is room for one value more
 pub fields-room : (xs : List ℕ) (i : ℕ) → i < length xs
     → length (fields (take i xs)) + length (fields (getD xs i 0 ∷ [])) ≤ length (fields xs)
 fields-room xs i h =

@@ -5,22 +5,23 @@ use mathlib.Core.Path.{_≡_, refl, ap, _∙_}
 use mathlib.Core.List.{List, [], _∷_, _++_}
 use native.Mathlib.Nat.{add-zero, add-suc, suc-add, zero-add}
 use native.Mathlib.Omega.{arith}
-use lib.ListN.{length, drop, length-append}
+use lib.ListN.{length, length-append}
 use lib.Seq.{sets, sets-eq, length-sets}
-use Rattle.text.specs.Output.{Written}
+use Rattle.numbers.specs.Front.{atFront}
+use Rattle.text.specs.Output.{WrittenAt}
 
 sets-append : (xs ys l : List ℕ) (i : ℕ) → sets l i (xs ++ ys) ≡ sets (sets l i xs) (i + length xs) ys
 sets-append [] ys l i = rw (add-zero i)
 sets-append (x ∷ xs) ys l i = sets-append xs ys _ (suc i) ∙ rw (add-suc, suc-add)
 
-pub written-none : (at : ℕ) (out : List ℕ) → at ≤ length out → Written [] at out at out
+pub written-none : (at : ℕ) (out : List ℕ) → at ≤ length out → WrittenAt [] at out at out
 written-none at out h = record { until = omega arith; within = h; bytes = refl }
 
-pub written-length : {text : List ℕ} {at end : ℕ} {out out′ : List ℕ} → Written text at out end out′ → length out′ ≡ length out
+pub written-length : {text : List ℕ} {at end : ℕ} {out out′ : List ℕ} → WrittenAt text at out end out′ → length out′ ≡ length out
 written-length {text} {at} {out} w = ap length (w .bytes) ∙ length-sets out at text
 
-module _ {xs ys : List ℕ} {at mid end : ℕ} {out out′ out″ : List ℕ} (one : Written xs at out mid out′) (two : Written ys mid out′ end out″) where
-  pub written-then : Written (xs ++ ys) at out end out″
+module _ {xs ys : List ℕ} {at mid end : ℕ} {out out′ out″ : List ℕ} (one : WrittenAt xs at out mid out′) (two : WrittenAt ys mid out′ end out″) where
+  pub written-then : WrittenAt (xs ++ ys) at out end out″
   written-then =
       record {
         until = omega (arith, one .until, two .until, length-append xs ys);
@@ -28,5 +29,5 @@ module _ {xs ys : List ℕ} {at mid end : ℕ} {out out′ out″ : List ℕ} (o
         bytes = two .bytes ∙ rw (one .until, one .bytes) (rw sets-append);
       }
 
-pub written-front : {text : List ℕ} {end : ℕ} {out out′ : List ℕ} → Written text 0 out end out′ → out′ ≡ text ++ drop (length text) out
+pub written-front : {text : List ℕ} {end : ℕ} {out out′ : List ℕ} → WrittenAt text 0 out end out′ → out′ ≡ atFront text out
 written-front {text} {out} w = w .bytes ∙ sets-eq text out 0 (omega (arith, w .until, w .within)) ∙ rw zero-add

@@ -1,24 +1,24 @@
--- Lines of text as bytes (RULES 8): a word and numbers in decimal. Fields are parted by one blank and every
--- line ends with a line feed.
+-- Lines of text as bytes (RULES 8.2): a word and values in decimal. Fields are parted by one blank, and every line ends with a
+-- line feed.
 use Prim.Native.Nat.{ℕ, zero, suc, _+_, _/_, _%_}
 use mathlib.Core.Bool.{cond}
 use mathlib.Core.List.{List, [], _∷_, _++_}
 use lib.Dec.{ltb}
 use Rattle.numbers.specs.Kinds.{Bytes}
 
--- the last digit of a number
-abbrev pub lastDigit : ℕ → ℕ
+-- the last digit of a value, as a byte: '0' is 48
+abbrev pub lastDigit : (value : ℕ) → ℕ
 lastDigit x = 48 + x % 10
 
--- the digits of a number, the last one last; `more` digits at most
-unfoldable pub digits : (count number : ℕ) → List ℕ
+-- the digits of a value, the last one last; `most` digits at most
+unfoldable pub digits : (most value : ℕ) → Bytes
 digits zero x = []
-digits (suc more) x =
-    let before : List ℕ = digits more (x / 10) in
+digits (suc most) x =
+    let before : Bytes = digits most (x / 10) in
     cond (ltb x 10) [] before ++ lastDigit x ∷ []
 
--- a number in decimal; x has at most x + 1 digits
-unfoldable pub decimal : ℕ → List ℕ
+-- a value in decimal: x has x + 1 digits at most
+unfoldable pub decimal : (value : ℕ) → Bytes
 decimal x = digits (suc x) x
 
 abbrev pub blank : ℕ
@@ -27,11 +27,11 @@ blank = 32
 abbrev pub lineFeed : ℕ
 lineFeed = 10
 
--- numbers, a blank before each
-unfoldable pub fields : List ℕ → List ℕ
+-- values, a blank before each
+unfoldable pub fields : (values : List ℕ) → Bytes
 fields [] = []
 fields (x ∷ xs) = blank ∷ decimal x ++ fields xs
 
--- a word and numbers
-abbrev pub line : (word : Bytes) (numbers : List ℕ) → Bytes
+-- a word and values
+abbrev pub line : (word : Bytes) (values : List ℕ) → Bytes
 line word xs = word ++ fields xs ++ lineFeed ∷ []

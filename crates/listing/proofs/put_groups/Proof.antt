@@ -4,16 +4,16 @@ use native.Mathlib.Omega.{arith}
 use mathlib.Core.Path.{_≡_}
 use Rattle.forest.specs.Arrays.{countFrom}
 use Rattle.book_state.specs.Arrays.{cells}
-use Rattle.text.specs.Output.{Written}
-use Rattle.listing.specs.Lines.{linesOf, toldLine}
-use Rattle.listing.proofs.Lines.{lines-more, told-short}
+use Rattle.text.specs.Output.{WrittenAt}
+use Rattle.listing.specs.Lines.{linesOf, lineFromArrays}
+use Rattle.listing.proofs.Lines.{lines-more, array-line-short}
 use Rattle.text.proofs.Writing.{written-none, written-then, written-length}
 use Rattle.listing.proofs.put_groups.Statement.{statement}
 use Rattle.listing.proofs.put_groups.Tie as tie
 
 abbrev Inv-loop : tie.InvT-loop
 Inv-loop first count hold out₀ at end₀ cell₀ out end cell =
-    (cell ≤ 1024) × (end ≤ at + 19 * cell) × Written (linesOf (toldLine first count hold) (countFrom 0 cell)) at out₀ end out
+    (cell ≤ 1024) × (end ≤ at + 19 * cell) × WrittenAt (linesOf (lineFromArrays first count hold) (countFrom 0 cell)) at out₀ end out
 
 abbrev μ-loop : tie.MeasureT-loop
 μ-loop first count hold out₀ at end₀ cell₀ out end cell = 1024 - cell
@@ -60,7 +60,7 @@ loop-again c =
     let head = c .before .before .before .before .before .before .before .before .loop in
     let turn = c .before .before .before .before .before .before .before .loop-test .taken in
     let put = c .before .before .put-group .ensures in
-    let short = told-short (entry .args .first .now) (entry .pre .0) (head .cell) turn in
+    let short = array-line-short (entry .args .first .now) (entry .pre .0) (head .cell) turn in
     (omega arith, omega (arith, put .until, short), rw lines-more (written-then (head .inv .2) put))
 
 same-length : tie.Need-same-length Inv-loop μ-loop

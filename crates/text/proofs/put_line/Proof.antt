@@ -9,19 +9,19 @@ use Rattle.text.proofs.Writing.{written-then}
 use Rattle.text.proofs.put_line.Statement.{statement}
 use Rattle.text.proofs.put_line.Tie as tie
 
-one-longer : (word numbers : List ℕ) → length (line word numbers) ≡ length (word ++ fields numbers) + 1
-one-longer word numbers = length-append (word ++ fields numbers) (lineFeed ∷ [])
+one-longer : (word values : List ℕ) → length (line word values) ≡ length (word ++ fields values) + 1
+one-longer word values = length-append (word ++ fields values) (lineFeed ∷ [])
 
 put-fields-requires : tie.Need-put-fields-requires
 put-fields-requires c κs =
     let entry = c .before .before .before .before in
-    omega (arith, one-longer (entry .args .word .now) (entry .args .numbers .now), entry .pre)
+    omega (arith, one-longer (entry .args .word .now) (entry .args .values .now), entry .pre)
 
 put-byte-requires : tie.Need-put-byte-requires
 put-byte-requires c κs =
     let entry = c .before .before .before .before .before .before .before .before in
     let before = c .before .before .before .put-fields in
-    omega (arith, one-longer (entry .args .word .now) (entry .args .numbers .now), entry .pre, before .ensures .until, before .kept .1 .1 .0)
+    omega (arith, one-longer (entry .args .word .now) (entry .args .values .now), entry .pre, before .ensures .until, before .kept .1 .1 .0)
 
 same-length : tie.Need-same-length
 same-length c = c .before .before .put-byte .kept .1 .0 ∙ c .before .before .before .before .before .before .put-fields .kept .1 .1 .0

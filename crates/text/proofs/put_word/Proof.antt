@@ -1,8 +1,8 @@
--- `text::put_word` meets its contract: a word copied to the front of the part from a place on is stored from there.
+-- `text::put_word` meets its contract: a word copied to the front of a lent part stands where the part begins.
 use native.Mathlib.Omega.{arith}
 use borrow.Author.Needs.{needs}
 use lib.Seq.{take-length}
-use Rattle.file.proofs.Parts.{copied-from}
+use Rattle.numbers.proofs.Parts.{copied-from}
 use Rattle.text.proofs.put_word.Statement.{statement}
 use Rattle.text.proofs.put_word.Tie as tie
 

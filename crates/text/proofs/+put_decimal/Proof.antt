@@ -1,0 +1,80 @@
+-- `text::put_decimal` meets its contract, with the value as the measure: below 10 it is its one digit, and else its
+-- last digit comes after a tenth of it in decimal.
+use Prim.Native.Nat.{ℕ, _+_, _/_, _≤_, _<_}
+use mathlib.Core.Path.{_≡_, ap, _∙_}
+use mathlib.Core.List.{_∷_, []}
+use native.Mathlib.Omega.{arith}
+use lib.ListN.{length, length-append}
+use borrow.Fn.Kinds.{In}
+use borrow.Fn.PlainCycle.{Measures, is, falls, and}
+use Rattle.text.specs.Text.{lastDigit, decimal}
+use Rattle.text.proofs.Decimal.{decimal-one, decimal-more}
+use Rattle.text.proofs.Writing.{written-then}
+use Rattle.text.proofs.put_decimal.Reads as put-decimal
+use Rattle.text.proofs.put_decimal.Kinds as put-decimal-kinds
+use Rattle.text.proofs.+put_decimal.Lts-put_decimal as lts
+use Rattle.text.proofs.put_byte.Reads as put-byte
+use Rattle.text.proofs.+put_decimal.{statement}
+use Rattle.text.proofs.+put_decimal.Tie.{close}
+
+abbrev measure : Measures 1 put-decimal-kinds.ps ℕ
+measure κs a = a .0
+
+abbrev given : ℕ → In 1 put-decimal-kinds.ps
+given t = and 1 put-decimal-kinds.ps (is 1 put-decimal-kinds.ps measure t) put-decimal.Pre
+
+abbrev below : ℕ → In 1 put-decimal-kinds.ps
+below t = and 1 put-decimal-kinds.ps (falls 1 put-decimal-kinds.ps _<_ measure t) put-decimal.Pre
+
+-- a value of two or more digits is one longer than a tenth of it
+one-longer : (x : ℕ) → 10 ≤ x → length (decimal x) ≡ length (decimal (x / 10)) + 1
+one-longer x h = ap length (decimal-more x h) ∙ length-append (decimal (x / 10)) (lastDigit x ∷ [])
+
+module _ (t : ℕ) where
+  add-last : lts.Need-add-last (put-byte.Asked, put-byte.Learnt, below t, put-decimal.Post) (given t) put-decimal.Post
+  add-last c = omega arith
+
+  cast-last : lts.Need-cast-last (put-byte.Asked, put-byte.Learnt, below t, put-decimal.Post) (given t) put-decimal.Post
+  cast-last c = omega arith
+
+  put-byte-requires : lts.Need-put-byte-requires (put-byte.Asked, put-byte.Learnt, below t, put-decimal.Post) (given t) put-decimal.Post
+  put-byte-requires c κs = omega (arith, ap length (decimal-one _ (c .before .if1 .taken)), c .before .before .before .pre .1)
+
+  same-length : lts.Need-same-length (put-byte.Asked, put-byte.Learnt, below t, put-decimal.Post) (given t) put-decimal.Post
+  same-length c = c .before .before .put-byte .kept .1 .0
+
+  returns : lts.Need-returns (put-byte.Asked, put-byte.Learnt, below t, put-decimal.Post) (given t) put-decimal.Post
+  returns c = rw (decimal-one _ (c .before .before .before .before .if1 .taken)) (c .before .before .put-byte .ensures)
+
+  put-decimal-requires : lts.Need-put-decimal-requires (put-byte.Asked, put-byte.Learnt, below t, put-decimal.Post) (given t) put-decimal.Post
+  put-decimal-requires c κs =
+      let entry = c .before .before .before in
+      (omega arith, omega (arith, one-longer _ (c .before .if1 .left), entry .pre .1))
+
+  put-byte-requires-2 : lts.Need-put-byte-requires-2 (put-byte.Asked, put-byte.Learnt, below t, put-decimal.Post) (given t) put-decimal.Post
+  put-byte-requires-2 c κs =
+      let entry = c .before .before .before .before .before .before .before in
+      let before = c .before .before .before .put-decimal in
+      omega (arith, one-longer _ (c .before .before .before .before .before .if1 .left), entry .pre .1, before .ensures .until, before .kept .1 .0)
+
+  same-length-2 : lts.Need-same-length-2 (put-byte.Asked, put-byte.Learnt, below t, put-decimal.Post) (given t) put-decimal.Post
+  same-length-2 c = c .before .before .put-byte2 .kept .1 .0 ∙ c .before .before .before .before .before .before .put-decimal .kept .1 .0
+
+  returns-2 : lts.Need-returns-2 (put-byte.Asked, put-byte.Learnt, below t, put-decimal.Post) (given t) put-decimal.Post
+  returns-2 c =
+      let before = c .before .before .before .before .before .before in
+      rw (decimal-more _ (before .before .before .if1 .left)) (written-then (before .put-decimal .ensures) (c .before .before .put-byte2 .ensures))
+
+pub +put-decimal-spec : {M : Type 1} → statement M
++put-decimal-spec =
+    close measure λ t.
+    lts.spec (put-byte.Asked, put-byte.Learnt, below t, put-decimal.Post) (given t) put-decimal.Post
+    (add-last t)
+    (cast-last t)
+    (put-byte-requires t)
+    (same-length t)
+    (returns t)
+    (put-decimal-requires t)
+    (put-byte-requires-2 t)
+    (same-length-2 t)
+    (returns-2 t)
