@@ -3,6 +3,7 @@
 mod answer; // answer.rt: the answer for a book in order, two cells and buffers that are long enough
 
 use book_state::Book;
+use book_state::CELLS;
 ghost use Rattle.chain.specs.Chain.{chainOf, GivesChain};
 
 // What the chain call gives; with a number that is not 0 all else is 0.
@@ -40,10 +41,10 @@ pub fn chain(book: Book, log: &[u16], one: u16, other: u16, chain: &mut [u16]) -
     if chain.len() < 1024 {
         return answer::refused(6);
     }
-    if 1024 <= one {
+    if CELLS <= one {
         return answer::refused(3);
     }
-    if 1024 <= other {
+    if CELLS <= other {
         return answer::refused(3);
     }
     answer::answer(book, log, one, other, chain)

@@ -71,5 +71,5 @@ toldLines firsts counts holds = linesOf (toldLine firsts counts holds) (countFro
 
 -- numbers with few digits
 pub record FewDigits (counts holds : List ℕ) : Type 0 where
-  pub count-most : (c : ℕ) → c < cells → getD counts c 0 ≤ 1024
+  pub count-most : (c : ℕ) → c < cells → getD counts c 0 ≤ cells
   pub hold-most : (c : ℕ) → c < cells → getD holds c 0 ≤ 16

@@ -3,6 +3,7 @@
 mod trees; // trees.rt: the forest of a window's links, and what its trees tell
 
 use book_state::Book;
+use book_state::STEP_LIMIT;
 use forest::PLACES;
 ghost use mathlib.Core.Path.{_≡_};
 ghost use Rattle.book_state.specs.Log.{Readable};
@@ -23,7 +24,7 @@ pub fn of_window(book: Book, log: &[u16]) -> Groups
     ensures { λ r. ⌜ r ≡ groupsOf book (now (log .entry)) ⌝ }
 {
     let forest = trees::window_forest(book, log);
-    let root = forest::walks::roots(&forest.parent, 10);
+    let root = forest::walks::roots(&forest.parent, STEP_LIMIT);
     let tallies = trees::tally(&root, &forest.parent, &forest.label, book.clock.n + 1);
     trees::at_roots(&root, tallies, forest.count)
 }
