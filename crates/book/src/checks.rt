@@ -1,4 +1,5 @@
 // The number of each call: the first check that fails, in the order of the table (RULES 7), or 0.
+use book_state::CELLS;
 use settings::Settings;
 use slides::Clock;
 ghost use mathlib.Core.Path.{_≡_};
@@ -35,10 +36,10 @@ pub fn link_number(
     if log.len() < 16384 {
         return 6;
     }
-    if 1024 <= one {
+    if CELLS <= one {
         return 3;
     }
-    if 1024 <= other {
+    if CELLS <= other {
         return 3;
     }
     if !slides::not_before(clock, tick) {

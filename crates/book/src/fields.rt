@@ -1,5 +1,6 @@
 // Opening, link and clock over the fields of a book, each lent where it stands: no copy of the book is made.
 use super::checks;
+use book_state::STEP_LIMIT;
 use book_state::order;
 use book_state::spots;
 use cells::Fitting;
@@ -104,7 +105,7 @@ fn store(
     log[at] = one;
     log[at + 1] = other;
     counts[spot] = count + 1;
-    let h = forest_unite::roots::merge_of(forward_parent, forward_size, 10, one, other);
+    let h = forest_unite::roots::merge_of(forward_parent, forward_size, STEP_LIMIT, one, other);
     forest_unite::merge_parents(forward_parent, h);
     forest_unite::merge_sizes(forward_size, h);
 }

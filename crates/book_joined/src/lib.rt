@@ -1,5 +1,7 @@
 // The joined call: four walks, always all four; and where neither forest alone decides, the crossing.
 use book_state::Book;
+use book_state::CELLS;
+use book_state::STEP_LIMIT;
 use book_state::order;
 use cells::Fitting;
 use forest::PLACES;
@@ -72,10 +74,10 @@ pub fn over_fields<'a>(
     if !ordered {
         return refused(1);
     }
-    if 1024 <= one {
+    if CELLS <= one {
         return refused(3);
     }
-    if 1024 <= other {
+    if CELLS <= other {
         return refused(3);
     }
     let cut = cut(clock);
@@ -119,10 +121,10 @@ fn answer<'a>(
     requires { ⌜ Askable (now backward) (now label) (now forward) cut one other ⌝ }
     ensures { λ r. ⌜ r ≡ answerOf cut (now (backward .entry)) (now (label .entry)) (now (forward .entry)) one other ⌝ }
 {
-    let backward_one = walks::walk_at(backward, label, 10, cut, one);
-    let backward_other = walks::walk_at(backward, label, 10, cut, other);
-    let forward_one = walks::walk(forward, 10, one);
-    let forward_other = walks::walk(forward, 10, other);
+    let backward_one = walks::walk_at(backward, label, STEP_LIMIT, cut, one);
+    let backward_other = walks::walk_at(backward, label, STEP_LIMIT, cut, other);
+    let forward_one = walks::walk(forward, STEP_LIMIT, one);
+    let forward_other = walks::walk(forward, STEP_LIMIT, other);
     let backward_steps = backward_one.steps + backward_other.steps;
     let steps = backward_steps + forward_one.steps + forward_other.steps;
     if backward_one.root == backward_other.root {
@@ -166,8 +168,8 @@ fn across<'a>(
     if alone(backward, label, forward, cut, other) {
         return one == other;
     }
-    let backward_roots = walks::roots_at(backward, label, 10, cut);
-    let forward_roots = walks::roots(forward, 10);
+    let backward_roots = walks::roots_at(backward, label, STEP_LIMIT, cut);
+    let forward_roots = walks::roots(forward, STEP_LIMIT);
     forest_cross::joined_across(&backward_roots, &forward_roots, one, other)
 }
 

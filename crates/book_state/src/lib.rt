@@ -7,6 +7,11 @@ use forest::PLACES;
 ghost use mathlib.Core.Path.{_≡_};
 ghost use Rattle.book_state.specs.Order.{neverOpened};
 
+// How many cells a book has, and how many steps number 1 allows a walk.
+pub const CELLS: u16 = 1024;
+
+pub const STEP_LIMIT: u8 = 10;
+
 // The settings and the latest time, the links stored in each place of the last two chunks, and the two forests.
 #[repr(C)]
 pub struct Book {

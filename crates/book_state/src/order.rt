@@ -1,4 +1,5 @@
-// Number 1 (RULES 7.8), for a whole book: its fields are in their ranges, and no walk in either forest exceeds 10 steps.
+// Number 1 (RULES 7.8), for a whole book: its fields are in their ranges, and no walk in either forest exceeds its steps.
+use super::STEP_LIMIT;
 use cells::Fitting;
 use settings::Settings;
 use slides::Clock;
@@ -33,10 +34,10 @@ pub fn in_order<'a>(
     if !forest_check::all_within(counts, 0, 257) {
         return false;
     }
-    if !forest_check::sound(forward_parent, forward_size, 10) {
+    if !forest_check::sound(forward_parent, forward_size, STEP_LIMIT) {
         return false;
     }
-    if !forest_check::sound(backward_parent, backward_size, 10) {
+    if !forest_check::sound(backward_parent, backward_size, STEP_LIMIT) {
         return false;
     }
     forest_check::labels_within(backward_label, 15)

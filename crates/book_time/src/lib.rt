@@ -1,5 +1,7 @@
 // The step of time: within a chunk nothing else changes; into the next chunk the backward forest is built from the chunk
 // that ends; further, nothing is left.
+use book_state::CELLS;
+use book_state::STEP_LIMIT;
 use book_state::spots;
 use forest::PLACES;
 use slides::Clock;
@@ -149,11 +151,11 @@ fn unite_pair(
 )
     ensures { λ _. ⌜ arraysOf (now (parent .exit)) (now (size .exit)) (now (label .exit)) ≡ unitedAll (arraysOf (now (parent .entry)) (now (size .entry)) (now (label .entry))) (map (labelled place) (keep (record { one = one; other = other }) [])) ⌝ }
 {
-    if 1024 <= one {
+    if CELLS <= one {
         return;
     }
-    if 1024 <= other {
+    if CELLS <= other {
         return;
     }
-    forest_unite::unite(parent, size, label, 10, place, one, other);
+    forest_unite::unite(parent, size, label, STEP_LIMIT, place, one, other);
 }

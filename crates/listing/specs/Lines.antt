@@ -71,5 +71,5 @@ linesFromArrays firsts counts holds = linesOf (lineFromArrays firsts counts hold
 
 -- counts and holds have few digits
 pub record FewDigits (counts holds : List ℕ) : Type 0 where
-  pub count-most : (c : ℕ) → c < cells → getD counts c 0 ≤ 1024
+  pub count-most : (c : ℕ) → c < cells → getD counts c 0 ≤ cells
   pub hold-most : (c : ℕ) → c < cells → getD holds c 0 ≤ 16

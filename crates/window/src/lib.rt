@@ -2,6 +2,7 @@
 // links chain two cells. Of a book, a window takes the clock and the counts alone.
 mod links; // links.rt: the links of a slide into arrays
 
+use book_state::STEP_LIMIT;
 use forest::PLACES;
 use slides::Clock;
 ghost use mathlib.Core.Path.{_≡_};
@@ -68,7 +69,15 @@ pub fn grow<'a>(
 {
     let mut i = 0;
     while i < count {
-        forest_unite::unite(parent, size, label, 10, labels[i], ones[i], others[i]);
+        forest_unite::unite(
+            parent,
+            size,
+            label,
+            STEP_LIMIT,
+            labels[i],
+            ones[i],
+            others[i],
+        );
         i += 1;
     }
 }
@@ -79,8 +88,8 @@ pub fn highest_label<'a>(parent: &'a [u16], label: &'a [u8], top: u8, one: u16, 
 {
     let mut cut = top;
     while 0 < cut {
-        let a = forest::walks::walk_at(parent, label, 10, cut, one);
-        let b = forest::walks::walk_at(parent, label, 10, cut, other);
+        let a = forest::walks::walk_at(parent, label, STEP_LIMIT, cut, one);
+        let b = forest::walks::walk_at(parent, label, STEP_LIMIT, cut, other);
         if a.root == b.root {
             return cut;
         }

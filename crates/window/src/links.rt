@@ -1,4 +1,5 @@
 // The links of a slide, from the log into three arrays: link i joins ones[i] and others[i] and has the label labels[i].
+use book_state::CELLS;
 use slides::Clock;
 ghost use mathlib.Core.Path.{_≡_};
 ghost use mathlib.Core.List.{map, []};
@@ -87,10 +88,10 @@ fn put_pair(
         ⌜ Put (map (labelled label) (keep (record { one = one; other = other }) []))
         at (now (ones .entry)) (now (others .entry)) (now (labels .entry)) r (now (ones .exit)) (now (others .exit)) (now (labels .exit)) ⌝ }
 {
-    if 1024 <= one {
+    if CELLS <= one {
         return at;
     }
-    if 1024 <= other {
+    if CELLS <= other {
         return at;
     }
     ones[at] = one;

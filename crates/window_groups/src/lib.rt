@@ -2,6 +2,7 @@
 // a cell's group is read off the forest, at the cell's root.
 mod trees; // trees.rt: the forest of a window's links, and what its trees tell
 
+use book_state::STEP_LIMIT;
 use forest::PLACES;
 use slides::Clock;
 ghost use mathlib.Core.Path.{_≡_};
@@ -23,7 +24,7 @@ pub fn of_window(clock: Clock, counts: &[u16; 32], log: &[u16]) -> Groups
     ensures { λ r. ⌜ r ≡ groupsOf clock (now (counts .entry)) (now (log .entry)) ⌝ }
 {
     let forest = trees::window_forest(clock, counts, log);
-    let root = forest::walks::roots(&forest.parent, 10);
+    let root = forest::walks::roots(&forest.parent, STEP_LIMIT);
     let tallies = trees::tally(&root, &forest.parent, &forest.label, clock.n + 1);
     trees::at_roots(&root, tallies, forest.count)
 }

@@ -1,10 +1,12 @@
 // The groups of a window, read off the forest of its links: a group is a tree, and its least hold the smallest label of a parent
 // step in it, less 1. A pass from the last cell to the first stores at each cell's root, and another fetches it from there.
 use super::Groups;
+use book_state::CELLS;
 use forest::PLACES;
 use slides::Clock;
 ghost use mathlib.Core.Path.{_≡_};
 ghost use lib.ListN.{length};
+ghost use Rattle.forest.specs.Arrays.{places};
 ghost use Rattle.book_state.specs.Log.{Readable};
 ghost use Rattle.window_groups.specs.Trees.{windowForestOf, Roots, lower, talliesOf, FromOne, groupsAt};
 
@@ -67,13 +69,13 @@ pub fn tally<'a>(
     label: &'a [u8; PLACES],
     top: u8,
 ) -> Tallies
-    requires { ⌜ Roots (now root) × (length (now parent) ≡ 1024) ⌝ }
+    requires { ⌜ Roots (now root) × (length (now parent) ≡ places) ⌝ }
     ensures { λ r. ⌜ r ≡ talliesOf (now (root .entry)) (now (parent .entry)) (now (label .entry)) top ⌝ }
 {
     let mut first = [0u16; PLACES];
     let mut count = [0u16; PLACES];
     let mut least = [top; PLACES];
-    let mut cell: u16 = 1024;
+    let mut cell: u16 = CELLS;
     while 0 < cell {
         cell -= 1;
         let at = cell as usize;
@@ -98,7 +100,7 @@ pub fn at_roots(root: &[u16; PLACES], tallies: Tallies, links: usize) -> Groups
     let mut count = [0u16; PLACES];
     let mut hold = [0u8; PLACES];
     let mut cell: u16 = 0;
-    while cell < 1024 {
+    while cell < CELLS {
         let at = cell as usize;
         let r = root[at] as usize;
         first[at] = tallies.first[r];
