@@ -2,24 +2,24 @@
 -- At each link the lists are in their ranges, since they hold a forest of links between cells; so one link more is graph's
 -- `unite` (the crate forest).
 use Prim.Native.Nat.{ℕ, _≤_, _<_}
-use mathlib.Core.Path.{_≡_, refl, _∙_, ap, subst⁻¹}
-use mathlib.Core.Bool.{Bool, true, false, cond}
+use mathlib.Core.Path.{_≡_, sym, _∙_, ap, subst⁻¹}
+use mathlib.Core.Bool.{true}
 use mathlib.Core.List.{List, [], _∷_, reverse, reverseAux}
 use native.Mathlib.Omega.{arith}
 use native.Mathlib.Nat.{le-refl}
-use lib.ListN.{length, set, length-set, length-replicate}
+use lib.ListN.{length, length-replicate}
 use borrow.Author.Tests.{eq-eqb}
 use Rattle.graph.specs.Forest.{Forest, Labelled, Each, empty, also, EndsBelow, walk, unite, forestOf}
 use Rattle.graph.proofs.Forests.{walk-ends, size-positive, size-bounded, parent-below}
-use Rattle.forest.specs.Arrays.{parentIn, sizeIn, held}
-use Rattle.forest_unite.specs.United.{mergeOf, mergedLabels}
+use Rattle.forest.specs.Arrays.{places, parentIn, sizeIn, held}
+use Rattle.forest_unite.specs.United.{mergeOf}
 use Rattle.forest_check.specs.Sound.{soundOf, ends}
 use Rattle.forest_unite.specs.declared.Merge.{Merge}
 use Rattle.forest.proofs.Fill.{length-countFrom}
 use Rattle.forest.proofs.Ranged.{Ranged}
 use Rattle.forest_check.proofs.Facts.{ranged-sound}
 use Rattle.forest.proofs.Held.{held-fresh}
-use Rattle.forest_unite.proofs.United.{each, held-unite, ranged-unite}
+use Rattle.forest_unite.proofs.United.{held-unite, stored-length}
 use Rattle.book_state.specs.Arrays.{cells, stepLimit, Arrays, freshArrays, united, unitedAll}
 
 -- ---- each of a list, from its end
@@ -33,7 +33,7 @@ each-reverse ps = each-onto ps empty
 
 -- ---- lists that hold a forest
 
-module _ (ps ss : List ℕ) {xs : List Labelled} (long : (length ps ≡ cells) × (length ss ≡ cells))
+module _ (ps ss : List ℕ) {xs : List Labelled} (long : (length ps ≡ places) × (length ss ≡ places))
     (parents : parentIn ps ≡ forestOf stepLimit xs .parent) (sizes : sizeIn ss ≡ forestOf stepLimit xs .size) (below : EndsBelow cells xs) where
   enough : stepLimit ≤ stepLimit
   enough = le-refl stepLimit
@@ -41,8 +41,8 @@ module _ (ps ss : List ℕ) {xs : List Labelled} (long : (length ps ≡ cells) �
   pub forest-ranged : Ranged cells ps ss
   forest-ranged =
       record {
-        parents-long = long .0;
-        sizes-long = long .1;
+        parents-long = omega (arith, long .0);
+        sizes-long = omega (arith, long .1);
         parent-below = λ c h. subst⁻¹ (λ up. up c < cells) parents (parent-below enough below c h);
         size-from = λ c h. subst⁻¹ (λ size. 1 ≤ size c) sizes (size-positive enough below c);
         size-to = λ c h. subst⁻¹ (λ size. size c ≤ cells) sizes (size-bounded enough below c);
@@ -53,33 +53,26 @@ module _ (ps ss : List ℕ) {xs : List Labelled} (long : (length ps ≡ cells) �
   forest-ends c = subst⁻¹ (λ up. ends up stepLimit c ≡ true) parents (eq-eqb _ _ (walk-ends enough below c))
 
   pub forest-sound : soundOf ps ss stepLimit ≡ true
-  forest-sound = ranged-sound ps ss stepLimit (rw (long .0) forest-ranged) (λ c h. forest-ends c)
+  forest-sound = ranged-sound ps ss stepLimit (long .1 ∙ sym (long .0)) (rw (long .0) forest-ranged) (λ c h. forest-ends c)
 
 -- ---- links united one after the other
 
 -- the lists hold the forest of the links
 pub record Holds (xs : List Labelled) (a : Arrays) : Type 0 where
-  pub parents-long : length (a .parents) ≡ cells
-  pub sizes-long : length (a .sizes) ≡ cells
-  pub labels-long : length (a .labels) ≡ cells
+  pub parents-long : length (a .parents) ≡ places
+  pub sizes-long : length (a .sizes) ≡ places
+  pub labels-long : length (a .labels) ≡ places
   pub holds : held (a .parents) (a .sizes) (a .labels) ≡ forestOf stepLimit xs
 
 pub holds-fresh : Holds [] freshArrays
 unfolding forestOf
 holds-fresh =
     record {
-      parents-long = length-countFrom 0 cells;
-      sizes-long = length-replicate {A = ℕ} cells 1;
-      labels-long = length-replicate {A = ℕ} cells 0;
-      holds = held-fresh cells;
+      parents-long = length-countFrom 0 places;
+      sizes-long = length-replicate {A = ℕ} places 1;
+      labels-long = length-replicate {A = ℕ} places 0;
+      holds = held-fresh places;
     }
-
-labels-as-long : (ls : List ℕ) (h : Merge) (label : ℕ) → length (mergedLabels ls h label) ≡ length ls
-labels-as-long ls h label = go (h .different)
-  where
-    go : (t : Bool) → length (cond t (set ls (h .child) label) ls) ≡ length ls
-    go true = length-set ls (h .child) label
-    go false = refl
 
 -- one link more
 module _ (x : Labelled) {xs : List Labelled} {a : Arrays} (cell : (x .link .one < cells) × (x .link .other < cells))
@@ -93,27 +86,21 @@ module _ (x : Labelled) {xs : List Labelled} {a : Arrays} (cell : (x .link .one 
   unfolding forestOf
   as-forest = ap (λ f. unite stepLimit f x) (on .holds)
 
-  ranged-more : Ranged cells (united a x .parents) (united a x .sizes)
-  unfolding united
-  ranged-more =
-      ranged-unite (a .parents) (a .sizes) (a .labels) (x .label) ranged (omega arith) (each (on .labels-long)) stepLimit (x .link)
-      (cell .0) (cell .1)
-      (λ c l. subst⁻¹ (λ (f : Forest). f .size c ≤ cells) as-forest (size-bounded (le-refl stepLimit) (also cell ends) c))
-
   pub holds-more : Holds (x ∷ xs) (united a x)
   unfolding united
   holds-more =
       record {
-        parents-long = ranged-more .parents-long;
-        sizes-long = ranged-more .sizes-long;
-        labels-long =
-            labels-as-long (a .labels) (mergeOf (a .parents) (a .sizes) stepLimit (x .link .one) (x .link .other)) (x .label)
-            ∙ on .labels-long;
+        parents-long = stored-length (h .different) (a .parents) _ _ ∙ on .parents-long;
+        sizes-long = stored-length (h .different) (a .sizes) _ _ ∙ on .sizes-long;
+        labels-long = stored-length (h .different) (a .labels) _ _ ∙ on .labels-long;
         holds =
-            held-unite (a .parents) (a .sizes) (a .labels) (x .label) ranged (omega arith) (each (on .labels-long)) stepLimit (x .link)
+            held-unite (a .parents) (a .sizes) (a .labels) (x .label) ranged (omega arith) (omega (arith, on .labels-long)) stepLimit (x .link)
             (cell .0) (cell .1)
             ∙ as-forest;
       }
+    where
+      h : Merge
+      h = mergeOf (a .parents) (a .sizes) stepLimit (x .link .one) (x .link .other)
 
 pub holds-all : {xs : List Labelled} → EndsBelow cells xs → Holds xs (unitedAll freshArrays xs)
 unfolding unitedAll

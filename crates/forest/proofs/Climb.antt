@@ -27,11 +27,11 @@ module _ (up : ℕ → ℕ) where
   unfolding climb
   climb-none c = refl
 
--- so many steps before a walk
-abbrev pub ahead : ℕ → graph.Walk → Walk
+-- a walk with `k` steps ahead of it
+abbrev ahead : ℕ → graph.Walk → Walk
 ahead k w = record { root = w .root; steps = k + w .steps }
 
--- the loop stands at `at` after so many steps
+-- the loop stands at `at` after these steps
 pub record Reached (up : ℕ → ℕ) (limit cell at steps : ℕ) : Type 0 where
   pub within : steps ≤ limit
   pub rest : walked (climb up limit cell) ≡ ahead steps (climb up (limit - steps) at)

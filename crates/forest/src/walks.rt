@@ -1,15 +1,23 @@
-// Walks: from a cell to its root along the parents, at most `most` steps.
+// Walks: from a cell to its root along the parents, in at most `limit` steps.
 ghost use mathlib.Core.Path.{_≡_};
 ghost use Rattle.forest.specs.Arrays.{places, parentIn, labelIn, parentAtIn, walkOf, walkAtOf, rootsOf, rootsAtOf};
 use super::PLACES;
 use super::Walk;
 
 // The cell's parent; a cell beyond the slice stands still.
-fn up(parent: &[u16], cell: u16) -> u16
+pub fn up(parent: &[u16], cell: u16) -> u16
     ensures { λ r. ⌜ r ≡ parentIn (now (parent .entry)) cell ⌝ }
 {
     let at = cell as usize;
     if at < parent.len() { parent[at] } else { cell }
+}
+
+// The label of the cell's step to its parent.
+fn label_of(label: &[u8], cell: u16) -> u8
+    ensures { λ r. ⌜ r ≡ labelIn (now (label .entry)) cell ⌝ }
+{
+    let at = cell as usize;
+    if at < label.len() { label[at] } else { 0 }
 }
 
 // The parent at a cut: a step whose label is below the cut is not taken.
@@ -20,23 +28,6 @@ fn up_at<'a>(parent: &'a [u16], label: &'a [u8], cut: u8, cell: u16) -> u16
         return cell;
     }
     up(parent, cell)
-}
-
-// A walk without a cut.
-pub fn walk(parent: &[u16], limit: u8, cell: u16) -> Walk
-    ensures { λ r. ⌜ r ≡ walkOf (now (parent .entry)) limit cell ⌝ }
-{
-    let mut at = cell;
-    let mut steps: u8 = 0;
-    while steps < limit {
-        let next = up(parent, at);
-        if next == at {
-            return Walk { root: at, steps };
-        }
-        at = next;
-        steps += 1;
-    }
-    Walk { root: at, steps }
 }
 
 // A walk at a cut.
@@ -56,7 +47,24 @@ pub fn walk_at<'a>(parent: &'a [u16], label: &'a [u8], limit: u8, cut: u8, cell:
     Walk { root: at, steps }
 }
 
-// The root alone, for those who count no steps: a number comes back in a register, where a walk goes through memory.
+// A walk without a cut: at the cut 0 every step is taken, and no label is needed.
+pub fn walk(parent: &[u16], limit: u8, cell: u16) -> Walk
+    ensures { λ r. ⌜ r ≡ walkOf (now (parent .entry)) limit cell ⌝ }
+{
+    let none = [0u8; 0];
+    walk_at(parent, &none, limit, 0, cell)
+}
+
+// The root alone, at a cut.
+fn root_at<'a>(parent: &'a [u16], label: &'a [u8], limit: u8, cut: u8, cell: u16) -> u16
+    ensures { λ r. ⌜ r ≡ walkAtOf (now (parent .entry)) (now (label .entry)) limit cut cell .root ⌝ }
+{
+    let found = walk_at(parent, label, limit, cut, cell);
+    found.root
+}
+
+// The root alone, without a cut. It has a loop of its own: its answer comes back in a register, where a walk's goes through
+// memory, and each link asks for two roots.
 pub fn root(parent: &[u16], limit: u8, cell: u16) -> u16
     ensures { λ r. ⌜ r ≡ walkOf (now (parent .entry)) limit cell .root ⌝ }
 {
@@ -64,23 +72,6 @@ pub fn root(parent: &[u16], limit: u8, cell: u16) -> u16
     let mut steps: u8 = 0;
     while steps < limit {
         let above = up(parent, at);
-        if above == at {
-            return at;
-        }
-        at = above;
-        steps += 1;
-    }
-    at
-}
-
-// The root alone, at a cut.
-fn root_at<'a>(parent: &'a [u16], label: &'a [u8], limit: u8, cut: u8, cell: u16) -> u16
-    ensures { λ r. ⌜ r ≡ walkAtOf (now (parent .entry)) (now (label .entry)) limit cut cell .root ⌝ }
-{
-    let mut at = cell;
-    let mut steps: u8 = 0;
-    while steps < limit {
-        let above = up_at(parent, label, cut, at);
         if above == at {
             return at;
         }
@@ -114,12 +105,4 @@ pub fn roots_at<'a>(parent: &'a [u16], label: &'a [u8], limit: u8, cut: u8) -> [
         cell += 1;
     }
     found
-}
-
-// The label of the cell's step to its parent.
-fn label_of(label: &[u8], cell: u16) -> u8
-    ensures { λ r. ⌜ r ≡ labelIn (now (label .entry)) cell ⌝ }
-{
-    let at = cell as usize;
-    if at < label.len() { label[at] } else { 0 }
 }

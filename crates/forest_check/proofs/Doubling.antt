@@ -57,8 +57,8 @@ doubles-end ps ss limit r e h =
     double c c<n k =
         let p : ℕ = getD ps c 0 in
         let same : parentIn ps c ≡ p = getD-within ps c c 0 c<n in
-        let below : p < length ss = rw (r .sizes-long) (rw same at (r .parent-below c c<n)) in
-        rw (same, getD-within ss c 1 0 (rw (r .sizes-long) c<n), getD-within ss p 1 0 below)
+        let below : p < length ss = lt-of-lt-of-le (rw same at (r .parent-below c c<n)) (r .sizes-long) in
+        rw (same, getD-within ss c 1 0 (lt-of-lt-of-le c<n (r .sizes-long)), getD-within ss p 1 0 below)
         (leb-true _ _ (rw (ne-eqb p c (λ q. k (same ∙ q))) at (every-each (doublesAt ss) ps e c c<n)))
 
     far : (c : ℕ) → c < length ps → length ps < sizeIn ss c * 2 ^ suc limit

@@ -1,8 +1,9 @@
 -- What number 1 tests of a forest, in facts and not in Bools, both ways.
 use Prim.Native.Nat.{ℕ, _+_, _<_}
-use mathlib.Core.Path.{_≡_, refl, sym, _∙_}
+use mathlib.Core.Path.{_≡_, sym, _∙_}
 use mathlib.Core.Bool.{true, and-eq-true-iff}
 use mathlib.Core.List.{List}
+use native.Mathlib.Nat.{le-refl}
 use native.Mathlib.Omega.{arith}
 use borrow.Author.Tests.{eq-eqb, eqb-true}
 use lib.Dec.{eqb}
@@ -19,8 +20,8 @@ pub ranged : (ps ss : List ℕ) → length ss ≡ length ps → every (within 0 
     → Ranged (length ps) ps ss
 ranged ps ss long parents sizes =
     record {
-      parents-long = refl;
-      sizes-long = long;
+      parents-long = le-refl (length ps);
+      sizes-long = omega (arith, long);
       parent-below = λ c h. rw (getD-within ps c c 0 h) (within-high 0 _ c _ (every-each _ ps parents c h));
       size-from = λ c h. within-low 1 _ c _ (size c h);
       size-to = λ c h. omega (arith, within-high 1 (length ps + 1) c (sizeIn ss c) (size c h));
@@ -50,15 +51,15 @@ module _ (ps ss : List ℕ) (limit : ℕ) where
   sound-ends e c h = sym (endsFrom-ends ps limit c h) ∙ every-each (endsFrom ps limit) ps (tests e .3) c h
 
   -- and the other way round
-  pub ranged-sound : Ranged (length ps) ps ss → ((c : ℕ) → c < length ps → ends (parentIn ps) limit c ≡ true) → soundOf ps ss limit ≡ true
-  ranged-sound r g =
+  pub ranged-sound : length ss ≡ length ps → Ranged (length ps) ps ss → ((c : ℕ) → c < length ps → ends (parentIn ps) limit c ≡ true) → soundOf ps ss limit ≡ true
+  ranged-sound long r g =
       simp (
-        eq-eqb _ _ (r .sizes-long),
+        eq-eqb _ _ long,
         each-every (within 0 (length ps)) ps
             (λ c h. within-both 0 (length ps) c (getD ps c 0) (omega arith) (rw (getD-within ps c 0 c h) (r .parent-below c h))),
         each-every (within 1 (length ps + 1)) ss
             (λ c h.
-            let h′ : c < length ps = rw (r .sizes-long) at h in
+            let h′ : c < length ps = rw long at h in
             rw (getD-within ss c 0 1 h)
             (within-both 1 (length ps + 1) c (sizeIn ss c) (r .size-from c h′) (omega (arith, r .size-to c h′)))),
         each-every (endsFrom ps limit) ps (λ c h. endsFrom-ends ps limit c h ∙ g c h),

@@ -5,10 +5,12 @@
 // A pass keeps a flag, or the least and the greatest so far, in the width of the entries, and goes on, with no way out: so a
 // machine can do several entries at a time.
 use forest::PLACES;
+use forest::walks;
 ghost use mathlib.Core.Path.{_≡_};
 ghost use mathlib.Core.Bool.{cond, _&&_};
-ghost use Prim.Native.Nat.{_-_, _*_, _^_, _≤_};
+ghost use Prim.Native.Nat.{_-_, _*_, _^_, _≤_, _<_};
 ghost use lib.Dec.{eqb, leb, ltb};
+ghost use lib.ListN.{length};
 ghost use Rattle.forest.specs.Arrays.{places, parentIn};
 ghost use Rattle.forest_check.specs.Sound.{every, within, ends, endsFrom, Comparable, Above, doublesAt, soundOf, labelsWithin};
 
@@ -145,32 +147,20 @@ fn walks_end(parent: &[u16], limit: u8) -> bool
     true
 }
 
-// Whether the cell's walk ends.
+// Whether the cell's walk ends: at a root it does, and elsewhere where the walk from its parent does, with a step less.
 fn ends_from(parent: &[u16], limit: u8, cell: usize) -> bool
+    requires { ⌜ cell < length (now parent) ⌝ }
     ensures { λ r. ⌜ r ≡ ends (parentIn (now (parent .entry))) limit cell ⌝ }
 {
-    let mut at = cell;
-    let mut steps: u8 = 0;
-    while steps < limit {
-        let next = up(parent, at);
-        if next == at {
-            return true;
-        }
-        at = next;
-        steps += 1;
+    let above = parent[cell];
+    if wide(above) == cell {
+        return true;
     }
-    up(parent, at) == at
-}
-
-// The cell's parent; a cell beyond the slice stands still.
-fn up(parent: &[u16], cell: usize) -> usize
-    ensures { λ r. ⌜ r ≡ parentIn (now (parent .entry)) cell ⌝ }
-{
-    if cell < parent.len() {
-        parent[cell] as usize
-    } else {
-        cell
+    if limit == 0 {
+        return false;
     }
+    let root = walks::root(parent, limit - 1, above);
+    walks::up(parent, root) == root
 }
 
 // The number in the width of a length.

@@ -7,8 +7,8 @@ ghost use mathlib.Core.Path.{_≡_};
 ghost use lib.ListN.{set};
 ghost use Rattle.forest_unite.specs.United.{mergedParents, mergedSizes, mergedLabels, United};
 
-// What a link does to a forest. Where its ends have different roots (apart), the root child goes under
-// the root top, whose tree then has size cells. Otherwise nothing, and the numbers are 0.
+// What a link does to a forest. Where its ends have different roots, the root `child` goes under
+// the root `top`, whose tree then has `size` cells. Otherwise nothing does, and the numbers are 0.
 pub struct Merge {
     pub different: bool,
     pub child: u16,

@@ -1,50 +1,48 @@
--- `forest_check::ends_from` meets its contract: the loop of a walk (proofs/Climb.antt), and whether its root is one.
-use Prim.Native.Nat.{_-_}
-use borrow.Author.Tests.{eq-eqb}
-use mathlib.Core.Path.{sym, ap, _∙_}
-use native.Mathlib.Omega.{arith}
+-- `forest_check::ends_from` meets its contract: a root's walk ends, and any other cell's where its parent's does with a step less.
+use Prim.Native.Nat.{ℕ, _-_}
+use borrow.Author.Needs.{needs}
+use mathlib.Core.Path.{_≡_, sym, ap, _∙_}
 use lib.Dec.{eqb}
+use Rattle.graph.specs.Forest.{climb}
 use Rattle.forest.specs.Arrays.{parentIn}
-use Rattle.forest.proofs.Climb.{Reached, begins, stays, goes, ended}
-use Rattle.forest_check.proofs.Ends.{ends-there}
+use Rattle.forest.proofs.Fill.{getD-within}
+use Rattle.forest_check.proofs.Ends.{ends-stays, ends-not, ends-above}
 use Rattle.forest_check.proofs.ends_from.Statement.{statement}
 use Rattle.forest_check.proofs.ends_from.Tie as tie
 
-abbrev Inv-loop : tie.InvT-loop
-Inv-loop parent limit cell at₀ steps₀ at steps = Reached (parentIn parent) limit at₀ at steps
+abbrev ups : tie.After-wide → ℕ → ℕ
+ups c = parentIn (c .before .before .before .args .parent .now)
 
-abbrev μ-loop : tie.MeasureT-loop
-μ-loop parent limit cell at₀ steps₀ at steps = limit - steps
+-- what was read is the cell's parent
+above : (c : tie.After-wide) → c .wide .result ≡ ups c (c .before .before .before .args .cell)
+above c = c .wide .ensures ∙ getD-within (c .before .before .before .args .parent .now) _ 0 _ (c .before .before .before .pre)
 
-loop-holds : tie.Need-loop-holds Inv-loop μ-loop
-loop-holds c = begins _ _ _
+returns : tie.Need-returns
+returns c = sym (ends-stays (ups (c .before)) _ _ (sym (above (c .before)) ∙ c .if1 .taken))
 
-up-requires : tie.Need-up-requires Inv-loop μ-loop
-up-requires c κs = tt
-
-returns : tie.Need-returns Inv-loop μ-loop
-returns c =
-    let next = c .before .up .ensures in
-    sym (eq-eqb _ _ (sym next ∙ c .if1 .taken)) ∙ ends-there _ _ _ (stays _ _ _ (c .before .before .before .loop .inv) next (c .if1 .taken))
-
-add-steps : tie.Need-add-steps Inv-loop μ-loop
-add-steps c = omega arith
-
-loop-less : tie.Need-loop-less Inv-loop μ-loop
-loop-less c = omega arith
-
-loop-again : tie.Need-loop-again Inv-loop μ-loop
-loop-again c = goes _ _ _ (c .before .before .before .loop .inv) (c .before .up .ensures) (c .if1 .left) (c .before .before .loop-test .taken)
-
-up-requires-2 : tie.Need-up-requires-2 Inv-loop μ-loop
-up-requires-2 c κs = tt
-
-returns-2 : tie.Need-returns-2 Inv-loop μ-loop
+returns-2 : tie.Need-returns-2
 returns-2 c =
-    ap (λ n. eqb n (c .before .before .loop .at)) (c .up2 .ensures)
-    ∙ ends-there _ _ _ (ended _ _ _ (c .before .before .loop .inv) (c .before .loop-test .left))
+    let read = c .before .before in
+    sym (ends-not (ups read) _ _ (λ e. c .before .if1 .left (above read ∙ e)) (c .if2 .taken))
+
+returns-3 : tie.Need-returns-3
+returns-3 c =
+    let read = c .before .before .before .before in
+    ap (λ x. eqb x (c .before .root .result)) (c .up .ensures)
+    ∙ ends-above (ups read) _ _ (λ e. c .before .before .before .if1 .left (above read ∙ e)) (c .before .before .if2 .left)
+    (c .before .root .ensures
+    ∙ ap (λ x. climb (ups read) (read .before .before .before .args .limit - 1) x .root) (sym (read .wide .ensures) ∙ above read))
 
 pub ends-from-spec : {M : Type 1} → statement M
 ends-from-spec =
     tie.close
-    (tie.spec Inv-loop μ-loop loop-holds up-requires returns add-steps loop-less loop-again up-requires-2 returns-2)
+    (tie.spec
+    (λ c. search needs)
+    (λ c. search needs)
+    (λ c κs. tt)
+    returns
+    returns-2
+    (λ c. search needs)
+    (λ c κs. tt)
+    (λ c κs. tt)
+    returns-3)

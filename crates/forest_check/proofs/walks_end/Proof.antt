@@ -21,7 +21,7 @@ loop-holds : tie.Need-loop-holds Inv-loop μ-loop
 loop-holds c = tested-none
 
 ends-from-requires : tie.Need-ends-from-requires Inv-loop μ-loop
-ends-from-requires c κs = tt
+ends-from-requires c κs = omega arith
 
 returns : tie.Need-returns Inv-loop μ-loop
 returns c =

@@ -5,17 +5,8 @@ use lib.Seq.{set-out}
 use Rattle.forest_unite.proofs.store_label.Statement.{statement}
 use Rattle.forest_unite.proofs.store_label.Tie as tie
 
-slice-write-label : tie.Need-slice-write-label
-slice-write-label c = search needs
-
-same-length : tie.Need-same-length
-same-length c = search needs
-
-returns : tie.Need-returns
-returns c = search needs
-
-returns-2 : tie.Need-returns-2
-returns-2 c = sym (set-out (c .before .args .label .now) _ _ (c .if1 .left))
+beyond : tie.Need-returns-2
+beyond c = sym (set-out (c .before .args .label .now) _ _ (c .if1 .left))
 
 pub store-label-spec : {M : Type 1} → statement M
-store-label-spec = tie.close (tie.spec slice-write-label same-length returns returns-2)
+store-label-spec = tie.close (tie.spec (λ c. search needs) (λ c. search needs) (λ c. search needs) beyond)
