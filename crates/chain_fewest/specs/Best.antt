@@ -5,10 +5,10 @@ use mathlib.Core.Bool.{cond}
 use mathlib.Core.List.{List}
 use lib.Dec.{leb}
 use lib.ListN.{length}
+use Rattle.numbers.specs.Front.{atFront}
 use Rattle.graph.specs.Link.{Chained}
 use Rattle.buckets.specs.Listed.{AllBelow}
 use Rattle.chain_fewest.specs.Lists.{linksOf}
-use Rattle.chain_fewest.specs.Descent.{written}
 
 -- at most 4,096 links between 1,024 cells, which chain the two, and a buffer of 1,024 places
 pub record Asked (ones others : List ℕ) (one other : ℕ) (chain : List ℕ) : Type 0 where
@@ -24,4 +24,4 @@ pub record Asked (ones others : List ℕ) (one other : ℕ) (chain : List ℕ) :
 -- the number of its cells, and the buffer afterwards; a trail of more than 1,024 cells is not written
 pub record Given (cs chain : List ℕ) (cells : ℕ) (after : List ℕ) : Type 0 where
   pub count : cells ≡ length cs
-  pub buffer : after ≡ cond (leb (length cs) 1024) (written cs chain) chain
+  pub buffer : after ≡ cond (leb (length cs) 1024) (atFront cs chain) chain
