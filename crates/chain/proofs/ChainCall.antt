@@ -32,7 +32,6 @@ use Rattle.window.proofs.Highest.{highest-exactly, highest-most}
 use Rattle.window.proofs.WindowLinks.{window-ends, window-falls, window-few, window-all, window-oldest}
 use Rattle.chain.specs.declared.ChainAnswer.{ChainAnswer}
 use Rattle.chain_fewest.specs.Lists.{linksOf}
-use Rattle.chain_fewest.specs.Descent.{written}
 use Rattle.chain_fewest.specs.Best.{Asked, Given}
 use Rattle.chain.specs.Front.{sideFrom, Window}
 use Rattle.chain.specs.Chain.{chainPlaces, labelOf, chainCells, windowChecks, chainNumber, ChainOutcome, chainByNumber, chainOf, windowChain, GivesChain, Answerable}

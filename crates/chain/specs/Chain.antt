@@ -5,9 +5,10 @@
 use Prim.Native.Nat.{ℕ, zero, suc, _+_, _-_, _≤_, _<_}
 use mathlib.Core.Path.{_≡_}
 use mathlib.Core.Bool.{_&&_}
-use mathlib.Core.List.{List, [], _∷_, _++_}
+use mathlib.Core.List.{List, [], _∷_}
 use lib.Dec.{leb, ltb}
-use lib.ListN.{length, drop}
+use lib.ListN.{length}
+use Rattle.numbers.specs.Front.{atFront}
 use Rattle.numbers.specs.Kinds.{Cell, Counts, Label, Log, Number}
 use Rattle.graph.specs.Trail.{trailOf}
 use Rattle.slides.specs.Clock.{openSlide}
@@ -61,7 +62,7 @@ chainByNumber zero clock counts log chain one other =
     let cs : List Cell = chainCells clock counts log one other in
     record {
       answer = record { newest = openSlide clock + j - clock .n; cells = length cs; hold = j - 1; number = 0 };
-      chain = cs ++ drop (length cs) chain;
+      chain = atFront cs chain;
     }
 chainByNumber (suc k) clock counts log chain one other =
     record { answer = record { newest = 0; cells = 0; hold = 0; number = suc k }; chain = chain }

@@ -8,13 +8,14 @@ use lib.ListN.{length, getD, take, replicate, length-replicate}
 use lib.Seq.{length-take-le}
 use borrow.Author.Tests.{le-leb, lt-leb}
 use Rattle.forest.specs.Arrays.{places}
+use Rattle.numbers.specs.Front.{atFront}
 use Rattle.graph.specs.Trail.{trailOf}
 use Rattle.graph.proofs.Trails.{trail-one}
 use Rattle.graph.proofs.Finder.{trailOf-best}
 use Rattle.buckets.specs.Listed.{Listed}
 use Rattle.chain_fewest.specs.Lists.{linksOf, BothWays}
 use Rattle.chain_fewest.specs.Levels.{Counted, Blank}
-use Rattle.chain_fewest.specs.Descent.{DescentReady, written}
+use Rattle.chain_fewest.specs.Descent.{DescentReady}
 use Rattle.chain_fewest.specs.Best.{Asked, Given}
 
 -- so many places of the array for the links
@@ -63,7 +64,7 @@ module _
 
     pub gives-written :
         getD remaining one 0 ≤ places →
-        {after : List ℕ} → after ≡ written trail chain → Given trail chain (getD remaining one 0) after
+        {after : List ℕ} → after ≡ atFront trail chain → Given trail chain (getD remaining one 0) after
     gives-written fits e =
         record { count = k .counts one; buffer = rw (le-leb (length trail) places (rw (k .counts one) at fits)) e }
 

@@ -9,11 +9,12 @@ use mathlib.Core.Path.{_≡_, refl, sym, _∙_, ap, ap₂}
 use mathlib.Core.List.{List, [], _∷_, _++_, append-assoc}
 use lib.ListN.{length, getD, set, take, drop, length-set, take-append-drop, List·getD-eq-default}
 use lib.Seq.{take-suc-set, drop-set-lt}
+use Rattle.numbers.specs.Front.{atFront}
 use Rattle.graph.specs.Trail.{trailOf}
 use Rattle.graph.proofs.Finder.{trailOf-same}
 use Rattle.chain_fewest.specs.Lists.{linksOf}
 use Rattle.chain_fewest.specs.Levels.{Known}
-use Rattle.chain_fewest.specs.Descent.{Nearer, NextCell, DescentReady, written}
+use Rattle.chain_fewest.specs.Descent.{Nearer, NextCell, DescentReady}
 use Rattle.chain_fewest.proofs.Onward.{some-nearer, trail-onward, one-left}
 
 -- a cell whose number is known is one of the cells
@@ -85,7 +86,7 @@ module _
         known = pos-of-ne-zero (λ none. apart (one-left (d .down .counted) (omega (arith, x .nearer .fewer))))
 
     pub descending-ends :
-        cell ≡ other → set chain place cell ≡ written (trailOf (linksOf ones others) one other) chain₀
+        cell ≡ other → set chain place cell ≡ atFront (trailOf (linksOf ones others) one other) chain₀
     descending-ends e =
         sym (take-append-drop (place + 1) (set chain place cell))
         ∙ ap₂ _++_ (sym all) (rw (← count, ← d .down .counted .counts one) rest-more)

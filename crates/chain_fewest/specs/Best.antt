@@ -6,10 +6,10 @@ use mathlib.Core.List.{List}
 use lib.Dec.{leb}
 use lib.ListN.{length}
 use Rattle.forest.specs.Arrays.{places}
+use Rattle.numbers.specs.Front.{atFront}
 use Rattle.graph.specs.Link.{Chained}
 use Rattle.buckets.specs.Listed.{AllBelow}
 use Rattle.chain_fewest.specs.Lists.{linksOf}
-use Rattle.chain_fewest.specs.Descent.{written}
 
 -- at most 4,096 links between cells that have a place in an array of cells, which chain the two, and a buffer as long as such an array
 pub record Asked (ones others : List ℕ) (one other : ℕ) (chain : List ℕ) : Type 0 where
@@ -25,4 +25,4 @@ pub record Asked (ones others : List ℕ) (one other : ℕ) (chain : List ℕ) :
 -- the number of its cells, and the buffer afterwards; a trail of more cells than such an array has places is not written
 pub record Given (cs chain : List ℕ) (cells : ℕ) (after : List ℕ) : Type 0 where
   pub count : cells ≡ length cs
-  pub buffer : after ≡ cond (leb (length cs) places) (written cs chain) chain
+  pub buffer : after ≡ cond (leb (length cs) places) (atFront cs chain) chain

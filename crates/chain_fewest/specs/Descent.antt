@@ -3,9 +3,8 @@
 use Prim.Native.Nat.{ℕ, _+_, _≤_, _<_}
 use mathlib.Core.Path.{_≡_}
 use mathlib.Core.Logic.{_⊎_}
-use mathlib.Core.List.{List, _++_}
-use lib.ListN.{length, getD, drop}
-use Rattle.numbers.specs.Kinds.{Cell}
+use mathlib.Core.List.{List}
+use lib.ListN.{length, getD}
 use Rattle.graph.specs.Link.{Link, Linked}
 use Rattle.chain_fewest.specs.Lists.{linksOf, Leads, BothWays}
 use Rattle.chain_fewest.specs.Levels.{Counted, Known}
@@ -35,7 +34,3 @@ pub record DescentReady
     pub counted : Counted (linksOf ones others) other remaining
     pub known : Known remaining one
     pub room : getD remaining one 0 ≤ length chain
-
--- a chain written to the front of a buffer; later places keep what they had
-abbrev pub written : (cells chain : List Cell) → List ℕ
-written cs chain = cs ++ drop (length cs) chain

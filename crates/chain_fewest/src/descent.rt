@@ -4,9 +4,10 @@ use buckets::entry_at;
 ghost use mathlib.Core.Path.{_≡_};
 ghost use Prim.Native.Nat.{ℕ, _<_, min};
 ghost use lib.ListN.{length};
+ghost use Rattle.numbers.specs.Front.{atFront};
 ghost use Rattle.graph.specs.Trail.{trailOf};
 ghost use Rattle.chain_fewest.specs.Lists.{linksOf, OneWay, BothWays};
-ghost use Rattle.chain_fewest.specs.Descent.{Smaller, Nearer, NextCell, DescentReady, written};
+ghost use Rattle.chain_fewest.specs.Descent.{Smaller, Nearer, NextCell, DescentReady};
 
 fn smaller(one: usize, other: usize) -> usize
     ensures { λ r. ⌜ r ≡ min one other ⌝ }
@@ -97,7 +98,7 @@ pub fn descend(
     requires { ⌜ DescentReady (now ones) (now others) (now «first_one») (now «next_one») (now «first_other») (now «next_other»)
         (now remaining) one other (now chain) ⌝ }
     ensures { λ _.
-        ⌜ now (chain .exit) ≡ written (trailOf (linksOf (now (ones .entry)) (now (others .entry))) one other)
+        ⌜ now (chain .exit) ≡ atFront (trailOf (linksOf (now (ones .entry)) (now (others .entry))) one other)
         (now (chain .entry)) ⌝ }
 {
     let mut cell = one;
