@@ -6,11 +6,11 @@ ghost use Prim.Native.Nat.{suc, _+_, _-_, _≤_, _<_};
 ghost use lib.ListN.{length, take};
 ghost use Rattle.graph.specs.Trail.{trailOf};
 ghost use Rattle.window.specs.Window.{highest};
-ghost use Rattle.window.specs.Gathered.{linksIn};
+ghost use Rattle.window.specs.Gathered.{arrayLinks};
 ghost use Rattle.chain_fewest.specs.Lists.{linksOf};
-ghost use Rattle.chain_fewest.specs.Best.{Asked, Given};
-ghost use Rattle.chain.specs.Chain.{windowChain, GivesChain, Answerable};
-ghost use Rattle.chain.specs.Front.{frontOf, sideFrom, Window};
+ghost use Rattle.chain_fewest.specs.Best.{TrailAskable, TrailGiven};
+ghost use Rattle.chain.specs.Chain.{windowChain, GivesChain, ChecksPassed};
+ghost use Rattle.chain.specs.Front.{frontLength, sideFromLabel, GatheredLinks};
 
 // The number alone.
 pub fn refused(number: u8) -> ChainAnswer
@@ -33,7 +33,7 @@ pub fn answer(
     other: u16,
     chain: &mut [u16],
 ) -> ChainAnswer
-    requires { ⌜ Answerable clock (now counts) (now log) (now chain) one other ⌝ }
+    requires { ⌜ ChecksPassed clock (now counts) (now log) (now chain) one other ⌝ }
     ensures { λ r. ⌜ GivesChain (windowChain clock (now (counts .entry)) (now (log .entry)) (now (chain .entry)) one other) r (now (chain .exit)) ⌝ }
 {
     let mut ones = [0u16; 4096];
@@ -78,23 +78,12 @@ fn label_of<'a>(
     one: u16,
     other: u16,
 ) -> u8
-    requires { ⌜ Window (now ones) (now others) (now labels) count n ⌝ }
-    ensures { λ r. ⌜ r ≡ highest (suc n) (linksIn (now (ones .entry)) (now (others .entry)) (now (labels .entry)) count) one other ⌝ }
+    requires { ⌜ GatheredLinks (now ones) (now others) (now labels) count n ⌝ }
+    ensures { λ r. ⌜ r ≡ highest (suc n) (arrayLinks (now (ones .entry)) (now (others .entry)) (now (labels .entry)) count) one other ⌝ }
 {
-    let mut parent = forest::fresh_parents();
-    let mut size = forest::fresh_sizes();
-    let mut label = forest::fresh_labels();
-    window::grow(
-        ones,
-        others,
-        labels,
-        count,
-        &mut parent,
-        &mut size,
-        &mut label,
-    );
+    let forest = window::grow(ones, others, labels, count);
     // One above n: a cell and itself are chained with no link at all.
-    window::highest_label(&parent, &label, n + 1, one, other)
+    window::highest_label(&forest.parent, &forest.label, n + 1, one, other)
 }
 
 // The best trail over the links with label j or more.
@@ -109,20 +98,20 @@ fn trail_from(
     chain: &mut [u16],
 ) -> u16
     requires { ⌜ (count ≤ length (now ones)) × (count ≤ length (now others)) × (count ≤ length (now labels)) ⌝ }
-    requires { ⌜ Asked (sideFrom j (now labels) count (now ones)) (sideFrom j (now labels) count (now others)) one other (now chain) ⌝ }
+    requires { ⌜ TrailAskable (sideFromLabel j (now labels) count (now ones)) (sideFromLabel j (now labels) count (now others)) one other (now chain) ⌝ }
     ensures { λ r.
-        ⌜ Given (trailOf (linksOf (sideFrom j (now (labels .entry)) count (now (ones .entry)))
-        (sideFrom j (now (labels .entry)) count (now (others .entry)))) one other) (now (chain .entry)) r
+        ⌜ TrailGiven (trailOf (linksOf (sideFromLabel j (now (labels .entry)) count (now (ones .entry)))
+        (sideFromLabel j (now (labels .entry)) count (now (others .entry)))) one other) (now (chain .entry)) r
         (now (chain .exit)) ⌝ }
 {
-    let front = front(labels, count, j);
+    let front = front_length(labels, count, j);
     chain_fewest::best_trail(&ones[..front], &others[..front], one, other, chain)
 }
 
-// How many labels, of the first so many, come before the first one below j.
-fn front(labels: &[u8], count: usize, j: u8) -> usize
+// How many of the first `count` labels come before the first one below j.
+fn front_length(labels: &[u8], count: usize, j: u8) -> usize
     requires { ⌜ count ≤ length (now labels) ⌝ }
-    ensures { λ r. ⌜ r ≡ frontOf j (take count (now (labels .entry))) ⌝ }
+    ensures { λ r. ⌜ r ≡ frontLength j (take count (now (labels .entry))) ⌝ }
 {
     let mut i = 0;
     while i < count {

@@ -11,7 +11,7 @@ use Rattle.chain_fewest.specs.Lists.{linksOf}
 use Rattle.chain_fewest.specs.Descent.{written}
 
 -- at most 4,096 links between 1,024 cells, which chain the two, and a buffer of 1,024 places
-pub record Asked (ones others : List ℕ) (one other : ℕ) (chain : List ℕ) : Type 0 where
+pub record TrailAskable (ones others : List ℕ) (one other : ℕ) (chain : List ℕ) : Type 0 where
   pub few : length ones ≤ 4096
   pub even : length others ≡ length ones
   pub onesInside : AllBelow 1024 ones
@@ -22,6 +22,6 @@ pub record Asked (ones others : List ℕ) (one other : ℕ) (chain : List ℕ) :
   pub chained : Chained (linksOf ones others) one other
 
 -- the number of its cells, and the buffer afterwards; a trail of more than 1,024 cells is not written
-pub record Given (cs chain : List ℕ) (cells : ℕ) (after : List ℕ) : Type 0 where
+pub record TrailGiven (cs chain : List ℕ) (cells : ℕ) (after : List ℕ) : Type 0 where
   pub count : cells ≡ length cs
   pub buffer : after ≡ cond (leb (length cs) 1024) (written cs chain) chain

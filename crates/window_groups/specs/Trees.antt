@@ -2,26 +2,15 @@
 -- parent step in it, less 1. That this is what Groups.antt says is proved (proofs/GroupTrees.antt).
 use Prim.Native.Nat.{ℕ, _-_, _≤_, _<_, min}
 use mathlib.Core.Bool.{cond}
-use mathlib.Core.List.{List, [], _∷_, reverse}
+use mathlib.Core.List.{List, [], _∷_}
 use lib.Dec.{eqb}
 use lib.ListN.{length, getD}
-use Rattle.numbers.specs.Kinds.{Cell, Counts, Label, Labels, Log, Parents}
+use Rattle.numbers.specs.Kinds.{Cell, Label, Labels, Parents}
 use Rattle.forest.specs.Arrays.{countFrom, parentIn, labelIn}
-use Rattle.book_state.specs.Arrays.{Arrays, cells, freshArrays, unitedAll}
-use Rattle.slides.specs.declared.Clock.{Clock}
-use Rattle.window.specs.Window.{windowLinks}
-use Rattle.window_groups.specs.declared.trees.WindowForest.{WindowForest}
+use Rattle.book_state.specs.Arrays.{cells}
 use Rattle.window_groups.specs.declared.trees.Tallies.{Tallies}
 use Rattle.window_groups.specs.declared.Groups.{Groups}
 use Rattle.window_groups.specs.Groups.{filter, smallest, ofCells}
-
--- the window's links united, newest slide first
-abbrev pub windowArrays : (clock : Clock) (counts : Counts) (log : Log) → Arrays
-windowArrays clock counts log = unitedAll freshArrays (reverse (windowLinks clock counts log))
-
-unfoldable pub windowForestOf : (clock : Clock) (counts : Counts) (log : Log) → WindowForest
-windowForestOf clock counts log =
-    record { parent = windowArrays clock counts log .parents; label = windowArrays clock counts log .labels; count = length (windowLinks clock counts log) }
 
 -- the root of a cell, in a list of the cells' roots
 abbrev pub rootIn : (roots : List ℕ) (cell : Cell) → ℕ
