@@ -94,7 +94,7 @@ below-front empty (suc m) i h = absurd (omega arith)
 below-front (also p ends) (suc m) zero h = p
 below-front (also p ends) (suc m) (suc i) h = below-front ends m i (omega arith)
 
--- so many fit in a side of these links
+-- a front of that length fits in either side
 pub front-fits : (count j : ℕ) (labels side : List ℕ) {r : ℕ} → count ≤ length labels → count ≤ length side
     → r ≡ frontLength j (take count labels) → r ≡ length (take r side)
 front-fits count j labels side {r} h k e =

@@ -21,7 +21,7 @@ use Rattle.book_state.specs.Numbers.{logPlaces, areCells}
 use Rattle.window.specs.Window.{windowLinks, linksFromLabel, highest}
 use Rattle.chain.specs.declared.ChainAnswer.{ChainAnswer}
 
--- the chain buffer's places, at least
+-- how many places the chain buffer must have
 abbrev pub chainPlaces : ℕ
 chainPlaces = 1024
 

@@ -1,5 +1,5 @@
--- The links of the window from a label on, in the arrays that hold the window's links newest slide first: as labels never rise
--- along the arrays, they are a front of them.
+-- The window's links with label j or more, in the arrays that hold all of them newest slide first: labels never rise along the
+-- arrays, so these links stand at the front.
 use Prim.Native.Nat.{ℕ, suc, _≤_}
 use mathlib.Core.Bool.{cond}
 use mathlib.Core.List.{List, [], _∷_}

@@ -12,7 +12,7 @@ ghost use Rattle.chain_fewest.specs.Best.{TrailAskable, TrailGiven};
 ghost use Rattle.chain.specs.Chain.{windowChain, GivesChain, ChecksPassed};
 ghost use Rattle.chain.specs.Front.{frontLength, sideFromLabel, GatheredLinks};
 
-// The number alone.
+// A refusal: the number, and everything else 0.
 pub fn refused(number: u8) -> ChainAnswer
     ensures { λ r. ⌜ r ≡ record { newest = 0; cells = 0; hold = 0; number = number } ⌝ }
 {
@@ -24,7 +24,7 @@ pub fn refused(number: u8) -> ChainAnswer
     }
 }
 
-// What is left to refuse is 7 and 8.
+// The answer where numbers 1, 6 and 3 are not given: 7 and 8 are left.
 pub fn answer(
     clock: Clock,
     counts: &[u16; 32],
@@ -53,7 +53,7 @@ pub fn answer(
     answered(k, n, label, cells)
 }
 
-// The answer by the open slide k and the label: L is k + label - n, and the hold one less than the label.
+// The answer for open slide k and the label: L is k + label - n, and the hold is one less than the label.
 fn answered(k: u64, n: u8, label: u8, cells: u16) -> ChainAnswer
     requires slide { ⌜ k < 4294967296 ⌝ }
     requires begun { ⌜ n ≤ k + label ⌝ }

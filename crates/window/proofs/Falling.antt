@@ -1,13 +1,10 @@
--- Labels that never rise along a list: those from a label on are the front of the list, and from the list's end on labels
--- never fall, which is the order that the cut of a forest wants (graph, Cut).
+-- Labels that never rise along a list: none is above the first, and read from the list's end they never fall, which is the
+-- order that the cut of a forest wants (graph, Cut).
 use Prim.Native.Nat.{ℕ, _≤_, _<_}
-use mathlib.Core.Path.{_≡_, refl, ap}
+use mathlib.Core.Path.{_≡_, refl}
 use mathlib.Core.List.{List, [], _∷_, _++_, map, reverse, reverseAux}
-use native.Mathlib.Omega.{arith}
-use native.Mathlib.Decide.{decLt}
 use native.Mathlib.Nat.{le-refl, le-trans, lt-of-le-of-lt}
-use borrow.Author.Tests.{lt-ltb, le-ltb}
-use lib.ListN.{length, take}
+use borrow.Author.Tests.{lt-ltb}
 use Rattle.graph.specs.Link.{Link}
 use Rattle.graph.specs.Forest.{Labelled, atLeast, Each, empty, also, NeverRise, start, lowest}
 use Rattle.graph.proofs.Cut.{each-map}
@@ -38,14 +35,3 @@ pub falls-none : {m : ℕ} {xs : List Labelled} → LabelsFall m xs → (j : ℕ
 unfolding atLeast
 falls-none none j h = refl
 falls-none (next {x} l on) j h = rw (lt-ltb (x .label) j (lt-of-le-of-lt l h)) (falls-none on j (lt-of-le-of-lt l h))
-
--- those from a label on stand at the front
-pub falls-front : {m : ℕ} {xs : List Labelled} → LabelsFall m xs → (j : ℕ) → atLeast j xs ≡ take (length (atLeast j xs)) xs
-unfolding atLeast
-falls-front none j = refl
-falls-front (next {x} {xs} l on) j = go (decLt (x .label) j) (falls-front on j)
-  where
-    go : Dec (x .label < j) → atLeast j xs ≡ take (length (atLeast j xs)) xs
-        → atLeast j (x ∷ xs) ≡ take (length (atLeast j (x ∷ xs))) (x ∷ xs)
-    go (yes h) e = rw (lt-ltb (x .label) j h, falls-none on j h)
-    go (no h) e = rw (le-ltb (x .label) j (omega arith)) (ap (λ ys. x ∷ ys) e)

@@ -20,7 +20,7 @@ use Rattle.book_state.proofs.Passes.{Parts, counted-parts}
 use Rattle.window.specs.Window as window
 use Rattle.window.specs.Window.{windowSlides, linksOfAge, slideLinks, linksFromAge, windowLinks}
 use Rattle.window.specs.LabelsFall.{LabelsFall, none}
-use Rattle.window.proofs.Falling.{falls-higher, falls-slide, falls-none}
+use Rattle.window.proofs.Falling.{falls-higher, falls-slide}
 
 each-append : {P : Labelled → Type 0} {xs ys : List Labelled} → Each P xs → Each P ys → Each P (xs ++ ys)
 each-append empty qs = qs
@@ -103,12 +103,9 @@ module _ (clock : Clock) (counts log : List ℕ) where
   unfolding windowLinks
   window-falls = falls-higher (omega arith) (falls-from 0 (windowSlides clock))
 
-  -- all have a label of 1 or more, and none one above n
+  -- all have a label of 1 or more
   pub window-all : window.linksFromLabel 1 (windowLinks clock counts log) ≡ map (λ x. x .link) (windowLinks clock counts log)
   window-all = ap (map (λ x. x .link)) (all-at-least 1 (each-map (λ x p. p .0) window-labels))
-
-  pub window-none : window.linksFromLabel (suc (clock .n)) (windowLinks clock counts log) ≡ []
-  window-none = ap (map (λ x. x .link)) (falls-none window-falls (suc (clock .n)) (omega arith))
 
   few-from : ((spot : ℕ) → getD counts spot 0 ≤ 256) → (age more : ℕ) → length (linksFromAge clock counts log age more) ≤ more * 256
   unfolding linksFromAge

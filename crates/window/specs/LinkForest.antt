@@ -1,5 +1,5 @@
 -- The labelled forest of links in arrays, and what it tells of two cells: the highest cut at which their walks end at one root.
-use Prim.Native.Nat.{ℕ, zero, suc}
+use Prim.Native.Nat.{zero, suc}
 use mathlib.Core.Bool.{Bool, cond}
 use mathlib.Core.List.{List, reverse}
 use lib.Dec.{eqb}

@@ -13,32 +13,32 @@ use Rattle.window_groups.specs.declared.Groups.{Groups}
 use Rattle.window_groups.specs.Groups.{filter, smallest, ofCells}
 
 -- the root of a cell, in a list of the cells' roots
-abbrev pub rootIn : (roots : List ℕ) (cell : Cell) → ℕ
+abbrev pub rootIn : (roots : List Cell) (cell : Cell) → Cell
 rootIn roots c = getD roots c 0
 
 -- each root is a cell
-abbrev pub Roots : List ℕ → Type 0
+abbrev pub Roots : (roots : List Cell) → Type 0
 Roots roots = (c : ℕ) → rootIn roots c < cells
 
 -- the cells whose root is r
-abbrev pub treeOf : (root : Cell → Cell) (r : Cell) → List ℕ
+abbrev pub treeOf : (root : Cell → Cell) (r : Cell) → List Cell
 treeOf root r = filter (λ c. eqb (root c) r) (countFrom 0 cells)
 
 -- what f gives of each root's tree
-abbrev pub ofTrees : (List ℕ → ℕ) → (ℕ → ℕ) → List ℕ
+abbrev pub ofTrees : (f : List Cell → ℕ) (root : Cell → Cell) → List ℕ
 ofTrees f root = ofCells (λ r. f (treeOf root r))
 
 -- the label of c's step, if that is smaller; a root has no step
-abbrev pub lower : (cell : Cell) (parent : ℕ) (label : Label) (least : ℕ) → ℕ
+abbrev pub lower : (cell parent : Cell) (label least : Label) → Label
 lower c parent label least = cond (eqb parent c) least (min label least)
 
--- the smallest label of a parent step from one of the cells; top where there is none
-unfoldable pub leastLabel : (top : ℕ) (parent : Cell → Cell) (label : Cell → ℕ) (cells : List Cell) → ℕ
+-- the smallest label of a parent step from one of the cells; `top` where there is none
+unfoldable pub leastLabel : (top : Label) (parent : Cell → Cell) (label : Cell → Label) (cells : List Cell) → Label
 leastLabel top parent label [] = top
 leastLabel top parent label (c ∷ cs) = lower c (parent c) (label c) (leastLabel top parent label cs)
 
 -- of each root's tree its smallest cell, number of cells and smallest label
-unfoldable pub talliesOf : (roots : List ℕ) (parents : Parents) (labels : Labels) (top : ℕ) → Tallies
+unfoldable pub talliesOf : (roots : List Cell) (parents : Parents) (labels : Labels) (top : Label) → Tallies
 talliesOf roots ps ls top =
     record {
       first = ofTrees smallest (rootIn roots);
@@ -47,15 +47,15 @@ talliesOf roots ps ls top =
     }
 
 -- what a list tells at the root of a cell
-abbrev pub atRoot : (roots told : List ℕ) (cell : Cell) → ℕ
+abbrev pub atRoot : (roots : List Cell) (told : List ℕ) (cell : Cell) → ℕ
 atRoot roots told c = getD told (rootIn roots c) 0
 
--- and that is 1 or more
-abbrev pub FromOne : (roots told : List ℕ) → Type 0
+-- and that is 1 or more, for each cell
+abbrev pub FromOne : (roots : List Cell) (told : List ℕ) → Type 0
 FromOne roots told = (c : ℕ) → c < cells → 1 ≤ atRoot roots told c
 
 -- of each cell what stands at its root; the hold is the smallest label, less 1
-unfoldable pub groupsAt : (roots : List ℕ) (tallies : Tallies) (links : ℕ) → Groups
+unfoldable pub groupsAt : (roots : List Cell) (tallies : Tallies) (links : ℕ) → Groups
 groupsAt roots t links =
     record {
       first = ofCells (atRoot roots (t .first));
