@@ -15,7 +15,7 @@ ghost use Rattle.book_state.specs.Log.{Readable, keep, labelled, linksAt, chunk
 ghost use Rattle.book_state.specs.Order.{bookOf};
 ghost use Rattle.book_time.specs.Time.{cleared, Fresh, movedBook};
 
-// Each cell its own root again, in both forests.
+// Makes both forests fresh: each cell is its own root again.
 pub fn freshen(
     forward_parent: &mut [u16; PLACES],
     forward_size: &mut [u16; PLACES],
@@ -32,7 +32,7 @@ pub fn freshen(
     *backward_label = forest::fresh_labels();
 }
 
-// The book of these fields when its time has moved to the tick; gives its clock then. Time moves nowhere else.
+// Moves the time of the book with these fields to the tick, and returns its clock then. Time moves nowhere else.
 pub fn move_to(
     clock: Clock,
     counts: &mut [u16; 32],
@@ -78,7 +78,7 @@ pub fn move_to(
     moved
 }
 
-// The counts with those of one half made 0.
+// The counts with one half set to 0.
 fn clear_half(counts: [u16; 32], half: usize) -> [u16; 32]
     requires { ⌜ half < 2 ⌝ }
     ensures { λ r. ⌜ r ≡ cleared half counts ⌝ }
@@ -89,7 +89,7 @@ fn clear_half(counts: [u16; 32], half: usize) -> [u16; 32]
     kept
 }
 
-// The links of places n - 1 down to 1 united into the forest, each with its place as label; place 0 is never scanned.
+// Unites the links of places n - 1 down to 1, each with its place as label; place 0 is never scanned (RULES 3.8).
 fn unite_chunk<'a>(
     counts: &'a [u16; 32],
     log: &'a [u16],
@@ -119,7 +119,7 @@ fn unite_chunk<'a>(
     }
 }
 
-// The links of a place, the last arrival first.
+// Unites the links of a place, last arrival first: `count` pairs of the log, starting at log place `start`.
 fn unite_place(
     log: &[u16],
     start: usize,
@@ -140,7 +140,7 @@ fn unite_place(
     }
 }
 
-// One pair of the log. With an entry that is no cell it is no link.
+// Unites one pair of the log. A pair with an entry that is no cell is no link.
 fn unite_pair(
     one: u16,
     other: u16,

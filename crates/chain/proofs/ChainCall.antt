@@ -9,9 +9,8 @@ use mathlib.Core.List.{List, [], _∷_, map}
 use native.Mathlib.Omega.{arith}
 use native.Mathlib.Decide.{decLe}
 use borrow.Author.Tests.{lt-ltb, le-ltb, le-leb, lt-leb}
-use lib.Dec.{leb, ltb}
-use lib.ListN.{length, replicate, length-replicate}
-use lib.Seq.{length-sets}
+use lib.Dec.{leb}
+use lib.ListN.{length}
 use Rattle.graph.specs.Link.{Chained}
 use Rattle.graph.specs.Forest.{Labelled}
 use Rattle.graph.specs.Trail.{trailOf}
@@ -26,15 +25,15 @@ use Rattle.book_state.specs.Numbers.{logPlaces}
 use Rattle.numbers.proofs.Checks.{passes, fails, last-passes, has-length}
 use Rattle.book_state.proofs.Checks.{both-cells, first-no-cell, second-no-cell}
 use Rattle.window.specs.Window.{windowLinks, linksFromLabel, highest}
-use Rattle.window.specs.Gathered.{onesOf, othersOf, labelsOf, Put, linksIn}
-use Rattle.window.proofs.Gathered.{Fits, Fronts, window-fits, put-fronts, put-read}
+use Rattle.window.specs.Gathered.{LinksPut, arrayLinks}
+use Rattle.window.proofs.Gathered.{blank, Fronts, put-many, put-long, put-fronts, put-read}
 use Rattle.window.proofs.Highest.{highest-exactly, highest-most}
 use Rattle.window.proofs.WindowLinks.{window-ends, window-falls, window-few, window-all, window-oldest}
 use Rattle.chain.specs.declared.ChainAnswer.{ChainAnswer}
 use Rattle.chain_fewest.specs.Lists.{linksOf}
-use Rattle.chain_fewest.specs.Best.{Asked, Given}
-use Rattle.chain.specs.Front.{sideFrom, Window}
-use Rattle.chain.specs.Chain.{chainPlaces, labelOf, chainCells, windowChecks, chainNumber, ChainOutcome, chainByNumber, chainOf, windowChain, GivesChain, Answerable}
+use Rattle.chain_fewest.specs.Best.{TrailAskable, TrailGiven}
+use Rattle.chain.specs.Front.{sideFromLabel, GatheredLinks}
+use Rattle.chain.specs.Chain.{chainPlaces, labelOf, chainCells, windowChecks, chainNumber, ChainOutcome, chainByNumber, chainOf, windowChain, GivesChain, ChecksPassed}
 use Rattle.chain.proofs.Front.{side-links, side-asked}
 
 abbrev pub refusal : ℕ → ChainAnswer
@@ -91,23 +90,7 @@ module _ (b : Book) (log chain : List ℕ) (one other : ℕ) where
 
 -- ---- an answerable call
 
--- the arrays before the links are put
-abbrev pub blank : List ℕ
-blank = replicate 4096 0
-
-long : length blank ≡ 4096
-long = length-replicate {A = ℕ} 4096 0
-
--- as long after it
-pub put-long : {xs : List Labelled} {ones others labels : List ℕ} {count : ℕ} → Put xs 0 blank blank blank count ones others labels
-    → (4096 ≡ length ones) × (4096 ≡ length others) × (4096 ≡ length labels)
-put-long {xs} put = (
-  sym (ap length (put .first) ∙ length-sets blank 0 (onesOf xs) ∙ long),
-  sym (ap length (put .second) ∙ length-sets blank 0 (othersOf xs) ∙ long),
-  sym (ap length (put .third) ∙ length-sets blank 0 (labelsOf xs) ∙ long),
-)
-
-module _ {clock : Clock} {counts log chain : List ℕ} {one other : ℕ} (a : Answerable clock counts log chain one other) where
+module _ {clock : Clock} {counts log chain : List ℕ} {one other : ℕ} (a : ChecksPassed clock counts log chain one other) where
   abbrev links : List Labelled
   links = windowLinks clock counts log
 
@@ -136,13 +119,13 @@ module _ {clock : Clock} {counts log chain : List ℕ} {one other : ℕ} (a : An
       passed = passes 7 _ (lt-ltb 0 label (rw is at joined))
 
       -- 8
-      pub too-long : {r : ChainAnswer} {count : ℕ} {after : List ℕ} → Given path chain count after → 1024 < count
+      pub too-long : {r : ChainAnswer} {count : ℕ} {after : List ℕ} → TrailGiven path chain count after → 1024 < count
           → r ≡ refusal 8 → GivesChain outcome r after
       too-long g h same =
           let long : leb (length path) 1024 ≡ false = lt-leb (length path) 1024 (rw (g .count) at h) in
           refuses clock counts log chain one other (passed ∙ fails 7 _ long) same (rw long at (g .buffer))
 
-      pub answers : {r : ChainAnswer} {count k : ℕ} {after : List ℕ} → Given path chain count after → count ≤ 1024
+      pub answers : {r : ChainAnswer} {count k : ℕ} {after : List ℕ} → TrailGiven path chain count after → count ≤ 1024
           → k ≡ openSlide clock → r ≡ record { newest = k + j - clock .n; cells = count; hold = j - 1; number = 0 }
           → GivesChain outcome r after
       unfolding chainByNumber
@@ -170,27 +153,24 @@ module _ {clock : Clock} {counts log chain : List ℕ} {one other : ℕ} (a : An
 
   -- ---- the links as they are gathered
 
-  module _ {ones others labels : List ℕ} {count : ℕ} (put : Put links 0 blank blank blank count ones others labels) where
-    fits : Fits (length links) blank blank blank
-    fits = window-fits clock counts log blank blank blank (a .readable) long long long
-
-    fronts : Fronts links count ones others labels
-    fronts = put-fronts put fits
-
+  module _ {ones others labels : List ℕ} {count : ℕ} (put : LinksPut links 0 blank blank blank count ones others labels) where
     few : length links ≤ 4096
     few = window-few clock counts log (a .readable)
 
-    pub gathered : Window ones others labels count (clock .n)
+    fronts : Fronts links count ones others labels
+    fronts = put-fronts put few
+
+    pub gathered : GatheredLinks ones others labels count (clock .n)
     gathered =
         record {
-          many = omega (arith, fronts .many, few);
+          many = omega (arith, put-many put, few);
           n-most = a .readable .n-most;
-          ends = rw (put-read put fits) (window-ends clock counts log);
-          falls = rw (put-read put fits) (window-falls clock counts log);
+          ends = rw (put-read put few) (window-ends clock counts log);
+          falls = rw (put-read put few) (window-falls clock counts log);
         }
 
-    pub label-is : {j : ℕ} → j ≡ highest (suc (clock .n)) (linksIn ones others labels count) one other → j ≡ label
-    label-is e = rw (put-read put fits) at e
+    pub label-is : {j : ℕ} → j ≡ highest (suc (clock .n)) (arrayLinks ones others labels count) one other → j ≡ label
+    label-is e = rw (put-read put few) at e
 
     pub room : (count ≤ length ones) × (count ≤ length others) × (count ≤ length labels)
     room =
@@ -198,11 +178,11 @@ module _ {clock : Clock} {counts log chain : List ℕ} {one other : ℕ} (a : An
         (rw (← l .0) (gathered .many), rw (← l .1) (gathered .many), rw (← l .2) (gathered .many))
 
     module _ {j : ℕ} (is : j ≡ label) where
-      pub asked : 0 < j → Asked (sideFrom j labels count ones) (sideFrom j labels count others) one other chain
+      pub asked : 0 < j → TrailAskable (sideFromLabel j labels count ones) (sideFromLabel j labels count others) one other chain
       asked joined =
           side-asked (window-falls clock counts log) fronts j (window-ends clock counts log) few (a .one-cell) (a .other-cell) (a .chain-room) (chained is joined)
 
       pub given : {r : ℕ} {after : List ℕ}
-          → Given (trailOf (linksOf (sideFrom j labels count ones) (sideFrom j labels count others)) one other) chain r after
-          → Given path chain r after
+          → TrailGiven (trailOf (linksOf (sideFromLabel j labels count ones) (sideFromLabel j labels count others)) one other) chain r after
+          → TrailGiven path chain r after
       given g = rw (side-links (window-falls clock counts log) fronts j, is) at g

@@ -22,7 +22,7 @@ use Rattle.book_state.specs.Numbers.{logPlaces, areCells}
 use Rattle.window.specs.Window.{windowLinks, linksFromLabel, highest}
 use Rattle.chain.specs.declared.ChainAnswer.{ChainAnswer}
 
--- the chain buffer's places, at least
+-- how many places the chain buffer must have
 abbrev pub chainPlaces : ℕ
 chainPlaces = 1024
 
@@ -76,12 +76,12 @@ windowChain clock counts log chain one other =
     chainByNumber (firstOf (windowChecks clock counts log one other)) clock counts log chain one other
 
 -- an answer and a chain buffer are those of an outcome
-pub record GivesChain (o : ChainOutcome) (answer : ChainAnswer) (chain : List ℕ) : Type 0 where
+pub record GivesChain (o : ChainOutcome) (answer : ChainAnswer) (chain : List Cell) : Type 0 where
   pub answered : answer ≡ o .answer
   pub written : chain ≡ o .chain
 
--- what is left where numbers 1, 6 and 3 are not given
-pub record Answerable (clock : Clock) (counts log chain : List ℕ) (one other : ℕ) : Type 0 where
+-- what the checks 1, 6 and 3 leave known
+pub record ChecksPassed (clock : Clock) (counts : Counts) (log : Log) (chain : List Cell) (one other : Cell) : Type 0 where
   pub readable : Readable (clock .n) counts log
   pub chain-room : chainPlaces ≤ length chain
   pub one-cell : one < cells

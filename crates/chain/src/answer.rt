@@ -7,13 +7,13 @@ ghost use lib.ListN.{length, take};
 ghost use Rattle.graph.specs.Trail.{trailOf};
 ghost use Rattle.slides.specs.Clock.{slideLimit};
 ghost use Rattle.window.specs.Window.{highest};
-ghost use Rattle.window.specs.Gathered.{linksIn};
+ghost use Rattle.window.specs.Gathered.{arrayLinks};
 ghost use Rattle.chain_fewest.specs.Lists.{linksOf};
-ghost use Rattle.chain_fewest.specs.Best.{Asked, Given};
-ghost use Rattle.chain.specs.Chain.{windowChain, GivesChain, Answerable};
-ghost use Rattle.chain.specs.Front.{frontOf, sideFrom, Window};
+ghost use Rattle.chain_fewest.specs.Best.{TrailAskable, TrailGiven};
+ghost use Rattle.chain.specs.Chain.{windowChain, GivesChain, ChecksPassed};
+ghost use Rattle.chain.specs.Front.{frontLength, sideFromLabel, GatheredLinks};
 
-// The number alone.
+// A refusal: the number, and everything else 0.
 pub fn refused(number: u8) -> ChainAnswer
     ensures { λ r. ⌜ r ≡ record { newest = 0; cells = 0; hold = 0; number = number } ⌝ }
 {
@@ -25,7 +25,7 @@ pub fn refused(number: u8) -> ChainAnswer
     }
 }
 
-// What is left to refuse is 7 and 8.
+// The answer where numbers 1, 6 and 3 are not given: 7 and 8 are left.
 pub fn answer(
     clock: Clock,
     counts: &[u16; 32],
@@ -34,7 +34,7 @@ pub fn answer(
     other: u16,
     chain: &mut [u16],
 ) -> ChainAnswer
-    requires { ⌜ Answerable clock (now counts) (now log) (now chain) one other ⌝ }
+    requires { ⌜ ChecksPassed clock (now counts) (now log) (now chain) one other ⌝ }
     ensures { λ r. ⌜ GivesChain (windowChain clock (now (counts .entry)) (now (log .entry)) (now (chain .entry)) one other) r (now (chain .exit)) ⌝ }
 {
     let mut ones = [0u16; 4096];
@@ -54,7 +54,7 @@ pub fn answer(
     answered(k, n, label, cells)
 }
 
-// The answer by the open slide k and the label: L is k + label - n, and the hold one less than the label.
+// The answer for open slide k and the label: L is k + label - n, and the hold is one less than the label.
 fn answered(k: u64, n: u8, label: u8, cells: u16) -> ChainAnswer
     requires slide { ⌜ k < slideLimit ⌝ }
     requires begun { ⌜ n ≤ k + label ⌝ }
@@ -79,23 +79,12 @@ fn label_of<'a>(
     one: u16,
     other: u16,
 ) -> u8
-    requires { ⌜ Window (now ones) (now others) (now labels) count n ⌝ }
-    ensures { λ r. ⌜ r ≡ highest (suc n) (linksIn (now (ones .entry)) (now (others .entry)) (now (labels .entry)) count) one other ⌝ }
+    requires { ⌜ GatheredLinks (now ones) (now others) (now labels) count n ⌝ }
+    ensures { λ r. ⌜ r ≡ highest (suc n) (arrayLinks (now (ones .entry)) (now (others .entry)) (now (labels .entry)) count) one other ⌝ }
 {
-    let mut parent = forest::fresh_parents();
-    let mut size = forest::fresh_sizes();
-    let mut label = forest::fresh_labels();
-    window::grow(
-        ones,
-        others,
-        labels,
-        count,
-        &mut parent,
-        &mut size,
-        &mut label,
-    );
+    let forest = window::grow(ones, others, labels, count);
     // One above n: a cell and itself are chained with no link at all.
-    window::highest_label(&parent, &label, n + 1, one, other)
+    window::highest_label(&forest.parent, &forest.label, n + 1, one, other)
 }
 
 // The best trail over the links with label j or more.
@@ -110,20 +99,20 @@ fn trail_from(
     chain: &mut [u16],
 ) -> u16
     requires { ⌜ (count ≤ length (now ones)) × (count ≤ length (now others)) × (count ≤ length (now labels)) ⌝ }
-    requires { ⌜ Asked (sideFrom j (now labels) count (now ones)) (sideFrom j (now labels) count (now others)) one other (now chain) ⌝ }
+    requires { ⌜ TrailAskable (sideFromLabel j (now labels) count (now ones)) (sideFromLabel j (now labels) count (now others)) one other (now chain) ⌝ }
     ensures { λ r.
-        ⌜ Given (trailOf (linksOf (sideFrom j (now (labels .entry)) count (now (ones .entry)))
-        (sideFrom j (now (labels .entry)) count (now (others .entry)))) one other) (now (chain .entry)) r
+        ⌜ TrailGiven (trailOf (linksOf (sideFromLabel j (now (labels .entry)) count (now (ones .entry)))
+        (sideFromLabel j (now (labels .entry)) count (now (others .entry)))) one other) (now (chain .entry)) r
         (now (chain .exit)) ⌝ }
 {
-    let front = front(labels, count, j);
+    let front = front_length(labels, count, j);
     chain_fewest::best_trail(&ones[..front], &others[..front], one, other, chain)
 }
 
-// How many labels, of the first so many, come before the first one below j.
-fn front(labels: &[u8], count: usize, j: u8) -> usize
+// How many of the first `count` labels come before the first one below j.
+fn front_length(labels: &[u8], count: usize, j: u8) -> usize
     requires { ⌜ count ≤ length (now labels) ⌝ }
-    ensures { λ r. ⌜ r ≡ frontOf j (take count (now (labels .entry))) ⌝ }
+    ensures { λ r. ⌜ r ≡ frontLength j (take count (now (labels .entry))) ⌝ }
 {
     let mut i = 0;
     while i < count {

@@ -21,8 +21,8 @@ pub struct ChainAnswer {
     pub number: u8,
 }
 
-// The chain is written to the front of the buffer; later places keep what they had, and where it is refused all do. The
-// fields of the book are lent where they stand: no copy of the book is made.
+// The chain call, over the fields of a book, each lent where it stands: no copy of the book is made. The chain is written to the
+// front of the buffer; later places keep what they had, and on refusal all places do.
 pub fn over_fields<'a>(
     clock: Clock,
     fitting: Fitting,

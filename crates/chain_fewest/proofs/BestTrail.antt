@@ -16,7 +16,7 @@ use Rattle.buckets.specs.Listed.{Listed}
 use Rattle.chain_fewest.specs.Lists.{linksOf, BothWays}
 use Rattle.chain_fewest.specs.Levels.{Counted, Blank}
 use Rattle.chain_fewest.specs.Descent.{DescentReady}
-use Rattle.chain_fewest.specs.Best.{Asked, Given}
+use Rattle.chain_fewest.specs.Best.{TrailAskable, TrailGiven}
 
 -- so many places of the array for the links
 pub places-long : (links : ℕ) → links ≤ 4096 → length {A = ℕ} (take links (replicate 4096 0)) ≡ links
@@ -29,7 +29,7 @@ all-blank (suc cells) (suc c) = all-blank cells c
 
 pub both-ways :
     {ones others firstOne nextOne firstOther nextOther chain : List ℕ} {one other : ℕ} →
-    Asked ones others one other chain →
+    TrailAskable ones others one other chain →
     Listed ones places 0 firstOne nextOne →
     Listed others places 0 firstOther nextOther → BothWays places ones others firstOne nextOne firstOther nextOther
 both-ways a forth back =
@@ -40,7 +40,7 @@ both-ways a forth back =
 
 module _
     {ones others chain remaining : List ℕ} {one other : ℕ}
-    (a : Asked ones others one other chain)
+    (a : TrailAskable ones others one other chain)
     (k : Counted (linksOf ones others) other remaining)
   where
     -- the trail is written where it is not too long
@@ -64,10 +64,10 @@ module _
 
     pub gives-written :
         getD remaining one 0 ≤ places →
-        {after : List ℕ} → after ≡ atFront trail chain → Given trail chain (getD remaining one 0) after
+        {after : List ℕ} → after ≡ atFront trail chain → TrailGiven trail chain (getD remaining one 0) after
     gives-written fits e =
         record { count = k .counts one; buffer = rw (le-leb (length trail) places (rw (k .counts one) at fits)) e }
 
-    pub gives-unwritten : places < getD remaining one 0 → Given trail chain (getD remaining one 0) chain
+    pub gives-unwritten : places < getD remaining one 0 → TrailGiven trail chain (getD remaining one 0) chain
     gives-unwritten long =
         record { count = k .counts one; buffer = rw (lt-leb (length trail) places (rw (k .counts one) at long)) }

@@ -12,7 +12,7 @@ use Rattle.buckets.specs.Listed.{AllBelow}
 use Rattle.chain_fewest.specs.Lists.{linksOf}
 
 -- at most 4,096 links between cells that have a place in an array of cells, which chain the two, and a buffer as long as such an array
-pub record Asked (ones others : List ℕ) (one other : ℕ) (chain : List ℕ) : Type 0 where
+pub record TrailAskable (ones others : List ℕ) (one other : ℕ) (chain : List ℕ) : Type 0 where
   pub few : length ones ≤ 4096
   pub even : length others ≡ length ones
   pub onesInside : AllBelow places ones
@@ -23,6 +23,6 @@ pub record Asked (ones others : List ℕ) (one other : ℕ) (chain : List ℕ) :
   pub chained : Chained (linksOf ones others) one other
 
 -- the number of its cells, and the buffer afterwards; a trail of more cells than such an array has places is not written
-pub record Given (cs chain : List ℕ) (cells : ℕ) (after : List ℕ) : Type 0 where
+pub record TrailGiven (cs chain : List ℕ) (cells : ℕ) (after : List ℕ) : Type 0 where
   pub count : cells ≡ length cs
   pub buffer : after ≡ cond (leb (length cs) places) (atFront cs chain) chain

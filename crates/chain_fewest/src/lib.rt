@@ -11,14 +11,14 @@ use levels::count_cells;
 ghost use Rattle.forest.specs.Arrays.{places};
 ghost use Rattle.graph.specs.Trail.{trailOf};
 ghost use Rattle.chain_fewest.specs.Lists.{linksOf, BothWays};
-ghost use Rattle.chain_fewest.specs.Best.{Asked, Given};
+ghost use Rattle.chain_fewest.specs.Best.{TrailAskable, TrailGiven};
 
 // Writes the best trail from one cell to the other to the front of the chain, unless it has more than 1,024 cells, and
 // returns its number of cells.
 pub fn best_trail(ones: &[u16], others: &[u16], one: u16, other: u16, chain: &mut [u16]) -> u16
-    requires { ⌜ Asked (now ones) (now others) one other (now chain) ⌝ }
+    requires { ⌜ TrailAskable (now ones) (now others) one other (now chain) ⌝ }
     ensures { λ r.
-        ⌜ Given (trailOf (linksOf (now (ones .entry)) (now (others .entry))) one other) (now (chain .entry)) r
+        ⌜ TrailGiven (trailOf (linksOf (now (ones .entry)) (now (others .entry))) one other) (now (chain .entry)) r
         (now (chain .exit)) ⌝ }
 {
     // The number of links ends a list: to begin with, all are empty.
@@ -57,11 +57,11 @@ fn trail_over(
     other: u16,
     chain: &mut [u16],
 ) -> u16
-    requires asked { ⌜ Asked (now ones) (now others) one other (now chain) ⌝ }
+    requires asked { ⌜ TrailAskable (now ones) (now others) one other (now chain) ⌝ }
     requires lists { ⌜ BothWays places (now ones) (now others) (now «first_one») (now «next_one») (now «first_other»)
         (now «next_other») ⌝ }
     ensures { λ r.
-        ⌜ Given (trailOf (linksOf (now (ones .entry)) (now (others .entry))) one other) (now (chain .entry)) r
+        ⌜ TrailGiven (trailOf (linksOf (now (ones .entry)) (now (others .entry))) one other) (now (chain .entry)) r
         (now (chain .exit)) ⌝ }
 {
     let mut remaining = [0u16; PLACES];

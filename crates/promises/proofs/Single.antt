@@ -72,7 +72,7 @@ single =
         equal (r .2) (s .2) (p .second) (q .second) i,
         equal (r .3) (s .3) (p .third) (q .third) i,
       );
-      grow = λ ones others labels count before. equal;
+      grow = λ ones others labels count. equal;
       highest-label = λ parent label top one other. equal;
       best-trail = λ ones others one other chain r s p q. both r s (p .count, p .buffer) (q .count, q .buffer);
       chain = λ b log chain one other r s p q. both r s (p .answered, p .written) (q .answered, q .written);

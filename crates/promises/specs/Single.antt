@@ -2,7 +2,7 @@
 -- and what its lent buffers hold afterwards, on refusal too. Each line below quotes a contract.
 use Prim.Native.Nat.{ℕ}
 use mathlib.Core.Path.{_≡_}
-use mathlib.Core.List.{List, _++_, reverse}
+use mathlib.Core.List.{List, _++_}
 use lib.ListN.{length, getD, drop, replicate}
 use Rattle.settings.specs.Settings.{settingsNumber}
 use Rattle.settings.specs.declared.Settings.{Settings}
@@ -28,18 +28,17 @@ use Rattle.listing.specs.Listing.{GivesListing, listingOf}
 use Rattle.book_state.specs.declared.Book.{Book}
 use Rattle.book.specs.declared.Answer.{Answer}
 use Rattle.book.specs.declared.fields.FieldsAnswer.{FieldsAnswer}
-use Rattle.book_state.specs.Arrays.{Arrays, unitedAll}
 use Rattle.book_state.specs.Log.{halfOf, spotOf, storedIn}
 use Rattle.book_state.specs.Order.{neverOpened, bookOf, inOrderOf}
 use Rattle.window.specs.Window.{windowLinks}
-use Rattle.window.specs.Gathered.{Put, linksIn}
-use Rattle.window.specs.Agree.{agreeFrom}
+use Rattle.window.specs.Gathered.{LinksPut, arrayLinks}
+use Rattle.window.specs.LinkForest.{grownFrom, highestCut}
 use Rattle.book_time.specs.Time.{Fresh, movedBook}
 use Rattle.book_joined.specs.Joined.{joinedOf}
 use Rattle.book.specs.Calls.{Outcome, Gives, GivesFields, openingOf, linkOf, clockOf}
 use Rattle.graph.specs.Trail.{trailOf}
 use Rattle.chain_fewest.specs.Lists.{linksOf}
-use Rattle.chain_fewest.specs.Best.{Given}
+use Rattle.chain_fewest.specs.Best.{TrailGiven}
 use Rattle.chain.specs.declared.ChainAnswer.{ChainAnswer}
 use Rattle.chain.specs.Chain.{GivesChain, chainOf}
 
@@ -79,13 +78,12 @@ pub record Single : Type 0 where
   pub joined : (b : Book) (one other : ℕ) → AtMostOne (λ r. r ≡ joinedOf b one other)
   -- window
   pub gather : (clock : Clock) (counts log ones others labels : List ℕ) →
-      AtMostOne {A = ℕ × List ℕ × List ℕ × List ℕ} (λ r. Put (windowLinks clock counts log) 0 ones others labels (r .0) (r .1) (r .2) (r .3))
-  pub grow : (ones others labels : List ℕ) (count : ℕ) (before : Arrays) →
-      AtMostOne (λ r. r ≡ unitedAll before (reverse (linksIn ones others labels count)))
-  pub highest-label : (parent label : List ℕ) (top one other : ℕ) → AtMostOne (λ r. r ≡ agreeFrom top parent label one other)
+      AtMostOne {A = ℕ × List ℕ × List ℕ × List ℕ} (λ r. LinksPut (windowLinks clock counts log) 0 ones others labels (r .0) (r .1) (r .2) (r .3))
+  pub grow : (ones others labels : List ℕ) (count : ℕ) → AtMostOne (λ r. r ≡ grownFrom (arrayLinks ones others labels count))
+  pub highest-label : (parent label : List ℕ) (top one other : ℕ) → AtMostOne (λ r. r ≡ highestCut top parent label one other)
   -- chain_fewest
   pub best-trail : (ones others : List ℕ) (one other : ℕ) (chain : List ℕ) →
-      AtMostOne {A = ℕ × List ℕ} (λ r. Given (trailOf (linksOf ones others) one other) chain (r .0) (r .1))
+      AtMostOne {A = ℕ × List ℕ} (λ r. TrailGiven (trailOf (linksOf ones others) one other) chain (r .0) (r .1))
   -- chain
   pub chain : (b : Book) (log chain : List ℕ) (one other : ℕ) →
       AtMostOne {A = ChainAnswer × List ℕ} (λ r. GivesChain (chainOf b log chain one other) (r .0) (r .1))

@@ -1,56 +1,60 @@
--- Links of three arrays united into a forest, the first of them first: to unite all of them from where it began is to unite
--- what is left from where the loop stands.
+-- Links of three arrays united into a fresh forest, the first of them first: to unite all of them from where it began is to
+-- unite what is left from where the loop stands.
 use Prim.Native.Nat.{ℕ, suc, _+_, _-_, _≤_, _<_}
 use mathlib.Core.Path.{_≡_, refl, sym, ap, _∙_}
-use mathlib.Core.List.{List, [], _∷_, reverse, reverseAux}
+use mathlib.Core.List.{List, [], _∷_, reverse, reverse-cons}
 use native.Mathlib.Omega.{arith}
 use lib.ListN.{getD}
 use Rattle.graph.specs.Forest.{Labelled}
+use Rattle.forest.specs.Arrays.{freshParents, freshSizes, freshLabels}
 use Rattle.forest_unite.specs.United.{United}
-use Rattle.book_state.specs.Arrays.{stepLimit, Arrays, arraysOf, united, unitedAll}
-use Rattle.book_state.specs.Log.{labelled}
-use Rattle.window.specs.Gathered.{linksOn, linksIn}
+use Rattle.book_state.specs.Arrays.{cells, stepLimit, Arrays, arraysOf, united, unitedAll}
+use Rattle.book_state.proofs.Passes.{Parts, counted-parts, united-append}
+use Rattle.window.specs.Gathered.{arrayLink, arrayLinksAt, arrayLinks}
+use Rattle.window.specs.LinkForest.{grownArrays, grownFrom}
 
--- the first link first
-united-onto : (a : Arrays) (xs ys : List Labelled) → unitedAll a (reverseAux xs ys) ≡ unitedAll (unitedAll a ys) (reverse xs)
-unfolding unitedAll
-united-onto a [] ys = refl
-united-onto a (x ∷ xs) ys = united-onto a xs (x ∷ ys) ∙ sym (united-onto (unitedAll a ys) xs (x ∷ []))
+module _ (ones others labels : List ℕ) (count : ℕ) where
+  -- the links from link i on
+  abbrev rest : ℕ → List Labelled
+  rest i = arrayLinksAt ones others labels i (count - i)
 
--- the first i links are united
-pub record Growing (ones others labels : List ℕ) (count : ℕ) (before now : Arrays) (i : ℕ) : Type 0 where
-  pub within : i ≤ count
-  pub left : unitedAll now (reverse (linksOn ones others labels i (count - i))) ≡ unitedAll before (reverse (linksIn ones others labels count))
+  parts : Parts count (λ i. arrayLink ones others labels i ∷ []) rest
+  unfolding arrayLinksAt
+  parts = counted-parts count _ (arrayLinksAt ones others labels) (λ i. refl) (λ i more. let on : i + 1 ≡ suc i = omega arith in rw on)
 
-module _ {ones others labels : List ℕ} {count : ℕ} {before : Arrays} where
-  pub growing-begin : Growing ones others labels count before before 0
-  growing-begin = let all : count - 0 ≡ count = omega arith in record { within = omega arith; left = rw all }
+  -- the first i links are united
+  pub record Growing (now : Arrays) (i : ℕ) : Type 0 where
+    pub within : i ≤ count
+    pub left : unitedAll now (reverse (rest i)) ≡ grownArrays (arrayLinks ones others labels count)
 
-  pub growing-more : {ps ss ls ps′ ss′ ls′ : List ℕ} {i : ℕ} → Growing ones others labels count before (arraysOf ps ss ls) i → i < count
-      → United ps ss ls stepLimit (getD ones i 0) (getD others i 0) (getD labels i 0) ps′ ss′ ls′
-      → Growing ones others labels count before (arraysOf ps′ ss′ ls′) (i + 1)
-  unfolding linksOn united unitedAll
-  growing-more {ps} {ss} {ls} {ps′} {ss′} {ls′} {i} r h u = record { within = omega arith; left = sym one ∙ r .left }
+  pub growing-none : {ps ss ls : List ℕ} → ps ≡ freshParents cells → ss ≡ freshSizes cells → ls ≡ freshLabels cells → Growing (arraysOf ps ss ls) 0
+  growing-none p s l = let all : count - 0 ≡ count = omega arith in record { within = omega arith; left = rw (all, p, s, l) }
+
+  pub growing-one : {ps ss ls ps′ ss′ ls′ : List ℕ} {i : ℕ} → Growing (arraysOf ps ss ls) i → i < count
+      → United ps ss ls stepLimit (getD ones i 0) (getD others i 0) (getD labels i 0) ps′ ss′ ls′ → Growing (arraysOf ps′ ss′ ls′) (i + 1)
+  unfolding united unitedAll
+  growing-one {ps} {ss} {ls} {ps′} {ss′} {ls′} {i} g h u = record { within = omega arith; left = sym one ∙ g .left }
     where
-      rest : List Labelled
-      rest = linksOn ones others labels (i + 1) (count - (i + 1))
-
       x : Labelled
-      x = labelled (getD labels i 0) (record { one = getD ones i 0; other = getD others i 0 })
+      x = arrayLink ones others labels i
 
       made : united (arraysOf ps ss ls) x ≡ arraysOf ps′ ss′ ls′
       made = simp (u .parents, u .sizes, u .labels)
 
-      one : unitedAll (arraysOf ps ss ls) (reverse (linksOn ones others labels i (count - i))) ≡ unitedAll (arraysOf ps′ ss′ ls′) (reverse rest)
+      one : unitedAll (arraysOf ps ss ls) (reverse (rest i)) ≡ unitedAll (arraysOf ps′ ss′ ls′) (reverse (rest (i + 1)))
       one =
-          let m : count - i ≡ suc (count - (i + 1)) = omega arith in
-          let next : suc i ≡ i + 1 = omega arith in
-          rw (m, next) (united-onto (arraysOf ps ss ls) rest (x ∷ []) ∙ ap (λ a. unitedAll a (reverse rest)) made)
+          ap (λ xs. unitedAll (arraysOf ps ss ls) (reverse xs)) (parts .next i h)
+          ∙ ap (unitedAll (arraysOf ps ss ls)) (reverse-cons x (rest (i + 1)))
+          ∙ united-append (arraysOf ps ss ls) (reverse (rest (i + 1))) (x ∷ [])
+          ∙ ap (λ a. unitedAll a (reverse (rest (i + 1)))) made
 
-  pub growing-end : {now : Arrays} {i : ℕ} → Growing ones others labels count before now i → count ≤ i
-      → now ≡ unitedAll before (reverse (linksIn ones others labels count))
-  unfolding linksOn unitedAll
-  growing-end {now} {i} r h = sym none ∙ r .left
+  pub growing-all : {ps ss ls : List ℕ} {i : ℕ} → Growing (arraysOf ps ss ls) i → count ≤ i
+      → record { parent = ps; label = ls } ≡ grownFrom (arrayLinks ones others labels count)
+  unfolding unitedAll grownFrom
+  growing-all {ps} {ss} {ls} {i} g h = λ j. record { parent = all j .parents; label = all j .labels }
     where
-      none : unitedAll now (reverse (linksOn ones others labels i (count - i))) ≡ now
-      none = let e : count - i ≡ 0 = omega arith in rw e
+      none : rest i ≡ []
+      none = let e : i ≡ count = omega (arith, g .within) in rw e (parts .none)
+
+      all : arraysOf ps ss ls ≡ grownArrays (arrayLinks ones others labels count)
+      all = sym (ap (λ xs. unitedAll (arraysOf ps ss ls) (reverse xs)) none) ∙ g .left

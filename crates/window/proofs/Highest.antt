@@ -1,22 +1,20 @@
--- The highest label: links from a label on chain two cells exactly when the label is not above it.
+-- The highest label: the links with label i or more chain two cells exactly when i is not above it.
 --
 -- With a lower label there are more links, so what is chained stays chained. So the first label from above at which the two
 -- are chained is the largest, and they are chained at every label below it.
 use Prim.Native.Nat.{ℕ, zero, suc, _≤_, _<_}
 use mathlib.Core.Path.{_≡_, refl}
 use mathlib.Core.Bool.{Bool, true, false, cond}
-use mathlib.Core.List.{List, [], _∷_, map}
+use mathlib.Core.List.{List, [], _∷_}
 use mathlib.Core.Logic.{_↔_, ⊎-elim}
 use native.Mathlib.Omega.{arith}
-use native.Mathlib.Nat.{le-refl, le-antisymm, eq-or-lt-of-le}
+use native.Mathlib.Nat.{le-refl, eq-or-lt-of-le}
 use native.Mathlib.Decide.{decLe, decLt}
 use borrow.Author.Tests.{lt-ltb, le-ltb}
-use Rattle.graph.specs.Link.{Linked, here, there, Chained, same, chains}
+use Rattle.graph.specs.Link.{Linked, here, there, Chained, chains}
 use Rattle.graph.specs.Forest.{Labelled, atLeast}
-use Rattle.graph.proofs.Chains.{chained-relink, chained-alone, chains-true, chains-false}
-use Rattle.slides.specs.declared.Clock.{Clock}
-use Rattle.window.specs.Window.{windowLinks, linksFromLabel, highest}
-use Rattle.window.proofs.WindowLinks.{window-all, window-none}
+use Rattle.graph.proofs.Chains.{chained-relink, chains-true, chains-false}
+use Rattle.window.specs.Window.{linksFromLabel, highest}
 
 -- with a lower label there are more links
 linked-lower : (xs : List Labelled) {i j a b : ℕ} → i ≤ j → Linked a b (linksFromLabel j xs) → Linked a b (linksFromLabel i xs)
@@ -37,10 +35,10 @@ linked-lower (x ∷ xs) {i} {j} {a} {b} h = go (decLt (x .label) i) (decLt (x .l
     go (no p) (no q) on = rw (le-ltb (x .label) i (omega arith), le-ltb (x .label) j (omega arith)) (kept on)
 
 module _ (xs : List Labelled) (a b : ℕ) where
-  pub chained-lower : {i j : ℕ} → i ≤ j → Chained (linksFromLabel j xs) a b → Chained (linksFromLabel i xs) a b
+  chained-lower : {i j : ℕ} → i ≤ j → Chained (linksFromLabel j xs) a b → Chained (linksFromLabel i xs) a b
   chained-lower h = chained-relink (λ x y. linked-lower xs h)
 
-  -- a label from which on links chain the two is not above the highest
+  -- where the links with label i or more chain the two, i is not above the highest label
   pub chained-highest : (j i : ℕ) → i ≤ j → Chained (linksFromLabel i xs) a b → i ≤ highest j xs a b
   unfolding highest
   chained-highest zero i h x = h
@@ -61,7 +59,7 @@ module _ (xs : List Labelled) (a b : ℕ) where
       go true e on l = chained-lower l (chains-true _ a b e)
       go false e on l = on l
 
-  -- links from a label on chain the two exactly when the label is not above the highest
+  -- both together
   pub highest-exactly : (j i : ℕ) → 1 ≤ i → i ≤ j → Chained (linksFromLabel i xs) a b ↔ (i ≤ highest j xs a b)
   highest-exactly j i low high = (chained-highest j i high, highest-chained j i low)
 
@@ -80,34 +78,3 @@ module _ (xs : List Labelled) (a b : ℕ) where
     | yes h ↦ h
     | no h ↦ absurd (apart (highest j xs a b) (omega arith) (highest-chained j _ (omega arith) (le-refl _)))
   ]
-
--- a cell and itself are chained with no link at all
-pub highest-same : (xs : List Labelled) (a j : ℕ) → highest j xs a a ≡ j
-highest-same xs a j = le-antisymm (highest-most xs a a j) (chained-highest xs a a j j (le-refl j) (same refl))
-
--- ---- of the window's links
-
-module _ (clock : Clock) (counts log : List ℕ) (one other : ℕ) where
-  abbrev top : ℕ
-  top = suc (clock .n)
-
-  abbrev label : ℕ
-  label = highest top (windowLinks clock counts log) one other
-
-  -- at least 1 exactly when the window's links chain the two
-  pub window-joined : (1 ≤ label) ↔ Chained (map (λ x. x .link) (windowLinks clock counts log)) one other
-  window-joined =
-      let both = highest-exactly (windowLinks clock counts log) one other top 1 (le-refl 1) (omega arith) in
-      rw (← window-all clock counts log) (both .1, both .0)
-
-  -- at most n for different cells, since no link has the label n + 1
-  pub window-apart : (one ≡ other → ⊥) → label ≤ clock .n
-  window-apart apart = ⊎-elim (λ e. absurd (apart (alone e))) (λ l. omega arith) (eq-or-lt-of-le (highest-most (windowLinks clock counts log) one other top))
-    where
-      no-link : {a c : ℕ} → Linked a c [] → ⊥
-      no-link = elim [ ]
-
-      alone : label ≡ top → one ≡ other
-      alone e =
-          chained-alone (λ c. no-link)
-          (rw (window-none clock counts log) at (highest-chained (windowLinks clock counts log) one other top top (omega arith) (rw e (le-refl top))))

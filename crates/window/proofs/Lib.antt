@@ -3,7 +3,6 @@ pub mod Falling
 pub mod Gathered
 pub mod Growing
 pub mod Highest
-pub mod Kept
 pub mod Putting
 pub mod WindowForest
 pub mod WindowLinks

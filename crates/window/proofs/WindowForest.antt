@@ -11,19 +11,19 @@ use mathlib.Core.Logic.{_↔_, _⊎_, inl, inr, ⊎-elim}
 use native.Mathlib.Nat.{le-refl}
 use borrow.Author.Tests.{eq-eqb, ne-eqb}
 use lib.Dec.{eqb, ltb}
+use lib.ListN.{length}
 use Rattle.graph.specs.Link.{Link, Linked, here, there, Chained, chains}
 use Rattle.graph.specs.Forest.{Forest, Labelled, climb, walkAt, forestOf, atLeast, EndsBelow}
 use Rattle.graph.proofs.Chains.{chained-relink, chains-true, chains-false}
 use Rattle.graph.proofs.Cut.{same-root-at}
-use Rattle.forest.specs.Arrays.{parentAtIn}
-use Rattle.slides.specs.declared.Clock.{Clock}
-use Rattle.book_state.specs.Arrays.{cells, stepLimit, arraysOf, freshArrays, unitedAll}
+use Rattle.forest.specs.Arrays.{parentIn, parentAtIn, labelIn}
+use Rattle.book_state.specs.Arrays.{cells, stepLimit}
 use Rattle.book_state.proofs.Built.{each-reverse, Holds, holds-all}
-use Rattle.window.specs.Window.{windowLinks, linksFromLabel, highest}
-use Rattle.window.specs.Falls.{Falls}
-use Rattle.window.specs.Agree.{agreeAt, agreeFrom}
+use Rattle.window.specs.Window.{linksFromLabel, highest}
+use Rattle.window.specs.LabelsFall.{LabelsFall}
+use Rattle.window.specs.LinkForest.{grownArrays, grownFrom, oneRootAt, highestCut}
+use Rattle.window.specs.declared.LinkForest.{LinkForest}
 use Rattle.window.proofs.Falling.{falls-reverse}
-use Rattle.window.proofs.WindowLinks.{window-ends, window-falls}
 
 -- ---- the order of links
 
@@ -61,35 +61,47 @@ chained-reverse cut xs = rw (links-onto cut xs []) (chained-relink (λ x y. back
 
 -- ---- the forest
 
-module _ {xs : List Labelled} {m : ℕ} (ends : EndsBelow cells xs) (falls : Falls m xs)
-    {ps ss ls : List ℕ} (grown : arraysOf ps ss ls ≡ unitedAll freshArrays (reverse xs)) where
-  holds : Holds (reverse xs) (arraysOf ps ss ls)
-  holds = rw grown (holds-all (each-reverse ends))
+-- links between cells, whose forest the code has grown
+module _ {xs : List Labelled} (ends : EndsBelow cells xs) {f : LinkForest} (is : f ≡ grownFrom xs) where
+  -- the forest, taken from the last link to the first as `forestOf` does
+  abbrev grown : Forest
+  grown = forestOf stepLimit (reverse xs)
 
-  -- two walks at a cut end at one root exactly when the links from that label on chain the two
-  pub agree-chains : (cut one other : ℕ) → agreeAt ps ls cut one other ≡ chains (linksFromLabel cut xs) one other
-  unfolding walkAt
-  agree-chains cut one other = rw (root one, root other) (go (chains (linksFromLabel cut xs) one other) refl)
-    where
-      f : Forest
-      f = forestOf stepLimit (reverse xs)
+  holds : Holds (reverse xs) (grownArrays xs)
+  holds = holds-all (each-reverse ends)
 
-      root : (c : ℕ) → climb (parentAtIn ps ls cut) stepLimit c .root ≡ walkAt stepLimit f cut c .root
-      root c = ap (λ g. walkAt stepLimit g cut c .root) (holds .holds)
+  pub parents-are : parentIn (f .parent) ≡ grown .parent
+  unfolding grownFrom
+  parents-are = ap (λ g. parentIn (g .parent)) is ∙ ap (λ g. g .parent) (holds .holds)
 
-      same : (walkAt stepLimit f cut one .root ≡ walkAt stepLimit f cut other .root) ↔ Chained (linksFromLabel cut (reverse xs)) one other
-      same = same-root-at (le-refl 10) (each-reverse ends) (falls-reverse falls) cut one other
+  pub labels-are : labelIn (f .label) ≡ grown .label
+  unfolding grownFrom
+  labels-are = ap (λ g. labelIn (g .label)) is ∙ ap (λ g. g .label) (holds .holds)
 
-      go : (t : Bool) → chains (linksFromLabel cut xs) one other ≡ t → eqb (walkAt stepLimit f cut one .root) (walkAt stepLimit f cut other .root) ≡ t
-      go true e = eq-eqb _ _ (same .1 (chained-reverse cut xs .1 (chains-true _ one other e)))
-      go false e = ne-eqb _ _ (λ q. chains-false _ one other e (chained-reverse cut xs .0 (same .0 q)))
+  pub parents-long : length (f .parent) ≡ cells
+  unfolding grownFrom
+  parents-long = ap (λ g. length (g .parent)) is ∙ holds .parents-long
 
-  pub agree-highest : (j one other : ℕ) → agreeFrom j ps ls one other ≡ highest j xs one other
-  unfolding agreeFrom highest
-  agree-highest zero one other = refl
-  agree-highest (suc j) one other = rw (agree-chains (suc j) one other, agree-highest j one other)
+  module _ {top : ℕ} (falls : LabelsFall top xs) where
+    -- two walks at a cut end at one root exactly when the links from that label on chain the two
+    one-root-chains : (cut one other : ℕ) → oneRootAt (f .parent) (f .label) cut one other ≡ chains (linksFromLabel cut xs) one other
+    unfolding walkAt grownFrom
+    one-root-chains cut one other = rw (root one, root other) (go (chains (linksFromLabel cut xs) one other) refl)
+      where
+        root : (c : ℕ) → climb (parentAtIn (f .parent) (f .label) cut) stepLimit c .root ≡ walkAt stepLimit grown cut c .root
+        root c =
+            ap (λ g. climb (parentAtIn (g .parent) (g .label) cut) stepLimit c .root) is
+            ∙ ap (λ g. walkAt stepLimit g cut c .root) (holds .holds)
 
--- the forest of the window's links, grown newest slide first
-pub window-highest : (clock : Clock) (counts log : List ℕ) {ps ss ls : List ℕ} → arraysOf ps ss ls ≡ unitedAll freshArrays (reverse (windowLinks clock counts log))
-    → (j one other : ℕ) → agreeFrom j ps ls one other ≡ highest j (windowLinks clock counts log) one other
-window-highest clock counts log = agree-highest (window-ends clock counts log) (window-falls clock counts log)
+        same : (walkAt stepLimit grown cut one .root ≡ walkAt stepLimit grown cut other .root) ↔ Chained (linksFromLabel cut (reverse xs)) one other
+        same = same-root-at (le-refl 10) (each-reverse ends) (falls-reverse falls) cut one other
+
+        go : (t : Bool) → chains (linksFromLabel cut xs) one other ≡ t → eqb (walkAt stepLimit grown cut one .root) (walkAt stepLimit grown cut other .root) ≡ t
+        go true e = eq-eqb _ _ (same .1 (chained-reverse cut xs .1 (chains-true _ one other e)))
+        go false e = ne-eqb _ _ (λ q. chains-false _ one other e (chained-reverse cut xs .0 (same .0 q)))
+
+    -- so the highest cut is the highest label
+    pub cut-highest : (j one other : ℕ) → highestCut j (f .parent) (f .label) one other ≡ highest j xs one other
+    unfolding highestCut highest
+    cut-highest zero one other = refl
+    cut-highest (suc j) one other = rw (one-root-chains (suc j) one other, cut-highest j one other)

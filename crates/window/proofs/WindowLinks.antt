@@ -5,10 +5,10 @@ use mathlib.Core.Path.{_≡_, refl, ap}
 use mathlib.Core.Bool.{Bool, true, false, cond, _&&_}
 use mathlib.Core.List.{List, [], _∷_, _++_, map}
 use native.Mathlib.Omega.{arith}
-use native.Mathlib.Nat.{le-refl}
+use native.Mathlib.Nat.{le-refl, le-trans}
 use borrow.Author.Tests.{ltb-true}
 use lib.Dec.{ltb}
-use lib.ListN.{length, getD, length-append}
+use lib.ListN.{length, getD, length-append, length-map}
 use Rattle.graph.specs.Link.{Link}
 use Rattle.graph.specs.Forest.{Labelled, Each, empty, also, EndsBelow}
 use Rattle.graph.proofs.Cut.{each-map, all-at-least}
@@ -16,11 +16,11 @@ use Rattle.slides.specs.Clock.{openSlide}
 use Rattle.slides.specs.declared.Clock.{Clock}
 use Rattle.book_state.specs.Arrays.{cells}
 use Rattle.book_state.specs.Log.{Readable, pairAt, labelled, linksAt}
+use Rattle.book_state.proofs.Passes.{Parts, counted-parts}
 use Rattle.window.specs.Window as window
 use Rattle.window.specs.Window.{windowSlides, linksOfAge, slideLinks, linksFromAge, windowLinks}
-use Rattle.window.specs.Falls.{Falls, none}
-use Rattle.window.proofs.Falling.{falls-higher, falls-slide, falls-none}
-use Rattle.window.proofs.Kept.{slide-few}
+use Rattle.window.specs.LabelsFall.{LabelsFall, none}
+use Rattle.window.proofs.Falling.{falls-higher, falls-slide}
 
 each-append : {P : Labelled → Type 0} {xs ys : List Labelled} → Each P xs → Each P ys → Each P (xs ++ ys)
 each-append empty qs = qs
@@ -43,7 +43,34 @@ kept-cells label log at (suc n) = go (ltb (pairAt log at .one) cells) (ltb (pair
     go true false p q on = on
     go false u p q on = on
 
+-- at most as many links as pairs
+links-few : (log : List ℕ) (at n : ℕ) → length (linksAt log at n) ≤ n
+unfolding linksAt
+links-few log at zero = omega arith
+links-few log at (suc n) = go (ltb (pairAt log at .one) cells && ltb (pairAt log at .other) cells) (links-few log (at + 2) n)
+  where
+    go : (t : Bool) → length (linksAt log (at + 2) n) ≤ n
+        → length (cond t (pairAt log at ∷ linksAt log (at + 2) n) (linksAt log (at + 2) n)) ≤ suc n
+    go true h = omega arith
+    go false h = omega arith
+
 module _ (clock : Clock) (counts log : List ℕ) where
+  -- the links of the window, from an age on
+  abbrev pub slidesFrom : (age : ℕ) → List Labelled
+  slidesFrom age = linksFromAge clock counts log age (windowSlides clock - age)
+
+  pub slides-all : slidesFrom 0 ≡ windowLinks clock counts log
+  unfolding windowLinks
+  slides-all = let all : windowSlides clock - 0 ≡ windowSlides clock = omega arith in rw all
+
+  pub slide-parts : Parts (windowSlides clock) (slideLinks clock counts log) slidesFrom
+  unfolding linksFromAge
+  slide-parts = counted-parts (windowSlides clock) (slideLinks clock counts log) (linksFromAge clock counts log) (λ i. refl) (λ i more. let on : i + 1 ≡ suc i = omega arith in rw on)
+
+  -- a slide has at most 256 links, if each count is such
+  pub slide-few : (age : ℕ) → ((spot : ℕ) → getD counts spot 0 ≤ 256) → length (slideLinks clock counts log age) ≤ 256
+  slide-few age few = rw length-map (le-trans (links-few log _ _) (few _))
+
   -- slide by slide
   each-slide : {P : Labelled → Type 0} (age more : ℕ)
       → ((a : ℕ) → a < age + more → Each P (slideLinks clock counts log a)) → Each P (linksFromAge clock counts log age more)
@@ -67,26 +94,23 @@ module _ (clock : Clock) (counts log : List ℕ) where
       each-slide 0 (windowSlides clock)
       (λ a h. each-labelled (λ l. clock .n ≤ openSlide clock + l) _ (omega arith) (linksOfAge clock counts log a))
 
-  falls-from : (age more : ℕ) → Falls (clock .n - age) (linksFromAge clock counts log age more)
+  falls-from : (age more : ℕ) → LabelsFall (clock .n - age) (linksFromAge clock counts log age more)
   unfolding linksFromAge
   falls-from age zero = none
   falls-from age (suc more) = falls-slide _ (linksOfAge clock counts log age) (le-refl _) (falls-higher (omega arith) (falls-from (suc age) more))
 
-  pub window-falls : Falls (clock .n) (windowLinks clock counts log)
+  pub window-falls : LabelsFall (clock .n) (windowLinks clock counts log)
   unfolding windowLinks
   window-falls = falls-higher (omega arith) (falls-from 0 (windowSlides clock))
 
-  -- all have a label of 1 or more, and none one above n
+  -- all have a label of 1 or more
   pub window-all : window.linksFromLabel 1 (windowLinks clock counts log) ≡ map (λ x. x .link) (windowLinks clock counts log)
   window-all = ap (map (λ x. x .link)) (all-at-least 1 (each-map (λ x p. p .0) window-labels))
-
-  pub window-none : window.linksFromLabel (suc (clock .n)) (windowLinks clock counts log) ≡ []
-  window-none = ap (map (λ x. x .link)) (falls-none window-falls (suc (clock .n)) (omega arith))
 
   few-from : ((spot : ℕ) → getD counts spot 0 ≤ 256) → (age more : ℕ) → length (linksFromAge clock counts log age more) ≤ more * 256
   unfolding linksFromAge
   few-from held age zero = omega arith
-  few-from held age (suc more) = rw length-append (omega (arith, slide-few clock counts log age held, few-from held (suc age) more))
+  few-from held age (suc more) = rw length-append (omega (arith, slide-few age held, few-from held (suc age) more))
 
   pub window-few : Readable (clock .n) counts log → length (windowLinks clock counts log) ≤ 4096
   unfolding windowLinks

@@ -1,4 +1,4 @@
-pub mod Agree
-pub mod Falls
 pub mod Gathered
+pub mod LabelsFall
+pub mod LinkForest
 pub mod Window

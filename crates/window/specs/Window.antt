@@ -36,13 +36,13 @@ linksFromAge clock counts log age (suc more) = slideLinks clock counts log age +
 unfoldable pub windowLinks : (clock : Clock) (counts : Counts) (log : Log) → List Labelled
 windowLinks clock counts log = linksFromAge clock counts log 0 (windowSlides clock)
 
--- those with a label of j or more
+-- the links with label j or more
 abbrev pub linksFromLabel : (j : Label) (links : List Labelled) → List Link
 linksFromLabel j xs = map (λ x. x .link) (atLeast j xs)
 
--- the largest label, from j down, such that the links from it on chain the two; 0 where there is none
-unfoldable pub highest : (top : ℕ) (links : List Labelled) (one other : Cell) → ℕ
+-- the largest label, from `top` down, such that the links from it on chain the two; 0 where there is none
+unfoldable pub highest : (top : Label) (links : List Labelled) (one other : Cell) → Label
 highest zero xs one other = 0
 highest (suc j) xs one other =
-    let lower : ℕ = highest j xs one other in
+    let lower : Label = highest j xs one other in
     cond (chains (linksFromLabel (suc j) xs) one other) (suc j) lower

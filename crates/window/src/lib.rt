@@ -6,17 +6,20 @@ use book_state::STEP_LIMIT;
 use forest::PLACES;
 use slides::Clock;
 ghost use mathlib.Core.Path.{_≡_};
-ghost use mathlib.Core.List.{reverse};
 ghost use Prim.Native.Nat.{_≤_};
-ghost use lib.ListN.{length};
 ghost use Rattle.book_state.specs.Log.{Readable};
-ghost use Rattle.book_state.specs.Arrays.{arraysOf, unitedAll};
 ghost use Rattle.window.specs.Window.{windowLinks};
-ghost use Rattle.window.specs.Gathered.{Put, linksIn};
-ghost use Rattle.window.specs.Agree.{agreeFrom};
+ghost use Rattle.window.specs.Gathered.{LinksPut, arrayLinks};
+ghost use Rattle.window.specs.LinkForest.{grownFrom, highestCut};
 
-// The links of the window into three arrays, newest slide first; the open slide's have the label n. Returns how many there
-// are: at most 16 slides of 256.
+// A forest of links: of each cell its parent, and the label of the step to it.
+pub struct LinkForest {
+    pub parent: [u16; 1024],
+    pub label: [u8; 1024],
+}
+
+// Puts the links of the window into three arrays, newest slide first; those of the open slide have the label n. Returns how
+// many there are: at most 16 slides of 256.
 pub fn gather(
     clock: Clock,
     counts: &[u16; 32],
@@ -27,7 +30,7 @@ pub fn gather(
 ) -> usize
     requires { ⌜ Readable (clock .n) (now counts) (now log) ⌝ }
     ensures { λ r.
-        ⌜ Put (windowLinks clock (now (counts .entry)) (now (log .entry))) 0 (now (ones .entry)) (now (others .entry)) (now (labels .entry))
+        ⌜ LinksPut (windowLinks clock (now (counts .entry)) (now (log .entry))) 0 (now (ones .entry)) (now (others .entry)) (now (labels .entry))
         r (now (ones .exit)) (now (others .exit)) (now (labels .exit)) ⌝ }
 {
     let k = slides::open_slide(clock);
@@ -51,28 +54,25 @@ pub fn gather(
     end
 }
 
-// The links of the first so many places united into the forest, the first of them first.
+// The forest of the first `count` links of three arrays, united from the first to the last.
 pub fn grow<'a>(
-    ones: &'a [u16],
-    others: &'a [u16],
-    labels: &'a [u8],
+    ones: &'a [u16; 4096],
+    others: &'a [u16; 4096],
+    labels: &'a [u8; 4096],
     count: usize,
-    parent: &mut [u16; PLACES],
-    size: &mut [u16; PLACES],
-    label: &mut [u8; PLACES],
-)
-    requires { ⌜ (count ≤ length (now ones)) × (count ≤ length (now others)) × (count ≤ length (now labels)) ⌝ }
-    ensures { λ _.
-        ⌜ arraysOf (now (parent .exit)) (now (size .exit)) (now (label .exit))
-        ≡ unitedAll (arraysOf (now (parent .entry)) (now (size .entry)) (now (label .entry)))
-        (reverse (linksIn (now (ones .entry)) (now (others .entry)) (now (labels .entry)) count)) ⌝ }
+) -> LinkForest
+    requires { ⌜ count ≤ 4096 ⌝ }
+    ensures { λ r. ⌜ r ≡ grownFrom (arrayLinks (now (ones .entry)) (now (others .entry)) (now (labels .entry)) count) ⌝ }
 {
+    let mut parent = forest::fresh_parents();
+    let mut size = forest::fresh_sizes();
+    let mut label = forest::fresh_labels();
     let mut i = 0;
     while i < count {
         forest_unite::unite(
-            parent,
-            size,
-            label,
+            &mut parent,
+            &mut size,
+            &mut label,
             STEP_LIMIT,
             labels[i],
             ones[i],
@@ -80,11 +80,12 @@ pub fn grow<'a>(
         );
         i += 1;
     }
+    LinkForest { parent, label }
 }
 
-// The highest cut, from top down to 1, at which the walks of the two end at one root; 0 where there is none.
+// The highest cut, from `top` down to 1, at which the walks of the two end at one root; 0 where there is none.
 pub fn highest_label<'a>(parent: &'a [u16], label: &'a [u8], top: u8, one: u16, other: u16) -> u8
-    ensures { λ r. ⌜ r ≡ agreeFrom top (now (parent .entry)) (now (label .entry)) one other ⌝ }
+    ensures { λ r. ⌜ r ≡ highestCut top (now (parent .entry)) (now (label .entry)) one other ⌝ }
 {
     let mut cut = top;
     while 0 < cut {

@@ -7,7 +7,7 @@ ghost use Prim.Native.Nat.{_+_, _*_, _≤_, _<_, min};
 ghost use lib.ListN.{length};
 ghost use Rattle.slides.specs.Clock.{chunkOf, placeOf};
 ghost use Rattle.book_state.specs.Log.{Readable, halfOf, keep, labelled, linksAt, placeLinks};
-ghost use Rattle.window.specs.Gathered.{Put};
+ghost use Rattle.window.specs.Gathered.{LinksPut};
 
 // How many slides the window has while slide k is open: in a young book fewer than n exist.
 pub fn window_slides(n: u8, k: u64) -> u8
@@ -16,7 +16,7 @@ pub fn window_slides(n: u8, k: u64) -> u8
     if k < n as u64 { k as u8 + 1 } else { n }
 }
 
-// Puts the links of a slide.
+// Puts the links of a slide into the arrays, the first at place `at`. Returns the place after the last, as the functions below do.
 pub fn put_slide(
     clock: Clock,
     counts: &[u16; 32],
@@ -31,7 +31,7 @@ pub fn put_slide(
     requires { ⌜ Readable (clock .n) (now counts) (now log) ⌝ }
     requires { ⌜ at + 256 ≤ 4096 ⌝ }
     ensures { λ r.
-        ⌜ Put (map (labelled label) (placeLinks (now (counts .entry)) (now (log .entry)) (halfOf (chunkOf clock slide)) (placeOf clock slide)))
+        ⌜ LinksPut (map (labelled label) (placeLinks (now (counts .entry)) (now (log .entry)) (halfOf (chunkOf clock slide)) (placeOf clock slide)))
         at (now (ones .entry)) (now (others .entry)) (now (labels .entry)) r (now (ones .exit)) (now (others .exit)) (now (labels .exit)) ⌝ }
 {
     let spot = book_state::spots::spot(clock, slide);
@@ -47,7 +47,7 @@ pub fn put_slide(
     )
 }
 
-// Puts so many links from a log place on, in order of arrival.
+// Puts the links of `count` pairs of the log, starting at log place `start`, in order of arrival.
 fn put_links(
     log: &[u16],
     start: usize,
@@ -60,7 +60,7 @@ fn put_links(
 ) -> usize
     requires { ⌜ (start + 2 * count ≤ length (now log)) × (at + count ≤ 4096) ⌝ }
     ensures { λ r.
-        ⌜ Put (map (labelled label) (linksAt (now (log .entry)) start count))
+        ⌜ LinksPut (map (labelled label) (linksAt (now (log .entry)) start count))
         at (now (ones .entry)) (now (others .entry)) (now (labels .entry)) r (now (ones .exit)) (now (others .exit)) (now (labels .exit)) ⌝ }
 {
     let mut end = at;
@@ -73,7 +73,7 @@ fn put_links(
     end
 }
 
-// Puts one pair of the log. With an entry that is no cell it is no link.
+// Puts one pair of the log. A pair with an entry that is no cell is no link.
 fn put_pair(
     one: u16,
     other: u16,
@@ -85,7 +85,7 @@ fn put_pair(
 ) -> usize
     requires { ⌜ at < 4096 ⌝ }
     ensures { λ r.
-        ⌜ Put (map (labelled label) (keep (record { one = one; other = other }) []))
+        ⌜ LinksPut (map (labelled label) (keep (record { one = one; other = other }) []))
         at (now (ones .entry)) (now (others .entry)) (now (labels .entry)) r (now (ones .exit)) (now (others .exit)) (now (labels .exit)) ⌝ }
 {
     if CELLS <= one {

@@ -1,5 +1,4 @@
 pub mod Cells
-pub mod Gathering
 pub mod GroupTrees
 pub mod Labels
 pub mod LeastHold

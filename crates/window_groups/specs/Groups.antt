@@ -1,5 +1,5 @@
--- The groups of a window's links (RULES 8): cells that the links chain together, the smallest cell of
--- each, how many there are, and the least hold over its pairs. Nothing here speaks of forests.
+-- The groups of a window's links (RULES 8): cells that the links chain together. Of each group its smallest cell, how many cells
+-- it has, and the least hold over its pairs. Nothing here speaks of forests.
 use Prim.Native.Nat.{ℕ, suc, _-_, min}
 use mathlib.Core.Bool.{Bool, cond}
 use mathlib.Core.List.{List, [], _∷_, map}
@@ -14,18 +14,18 @@ use Rattle.window.specs.Window.{windowLinks, linksFromLabel, highest}
 use Rattle.window_groups.specs.declared.Groups.{Groups}
 
 -- the cells of a list that pass a test
-unfoldable pub filter : (test : ℕ → Bool) (cells : List Cell) → List ℕ
+unfoldable pub filter : (test : Cell → Bool) (cells : List Cell) → List Cell
 filter test [] = []
 filter test (c ∷ cs) =
-    let rest : List ℕ = filter test cs in
+    let rest : List Cell = filter test cs in
     cond (test c) (c ∷ rest) rest
 
--- the cells that the window's links chain with c, in order of their numbers
-abbrev pub groupOf : (links : List Labelled) (cell : Cell) → List ℕ
+-- the cells that the links chain with c, in order of their numbers
+abbrev pub groupOf : (links : List Labelled) (cell : Cell) → List Cell
 groupOf xs c = filter (chains (linksFromLabel 1 xs) c) (countFrom 0 cells)
 
--- the first of the cells: the smallest, where they are in order of their numbers
-unfoldable pub smallest : List ℕ → ℕ
+-- the first cell of a list in order: the smallest
+unfoldable pub smallest : (cells : List Cell) → Cell
 smallest [] = 0
 smallest (c ∷ cs) = c
 
@@ -44,7 +44,7 @@ leastHold n xs [] = n
 leastHold n xs (c ∷ cs) = min (leastWith n xs c cs) (leastHold n xs cs)
 
 -- what f gives of each cell
-abbrev pub ofCells : (ℕ → ℕ) → List ℕ
+abbrev pub ofCells : (f : Cell → ℕ) → List ℕ
 ofCells f = map f (countFrom 0 cells)
 
 -- of each cell its group's smallest cell, number of cells and least hold; and the links of the window, repeats counted

@@ -1,6 +1,6 @@
 // The groups of a window: cells that its links chain together. A group is a tree of the forest of those links, so what is told of
 // a cell's group is read off the forest, at the cell's root.
-mod trees; // trees.rt: the forest of a window's links, and what its trees tell
+mod trees; // trees.rt: what the trees of a forest tell
 
 use book_state::STEP_LIMIT;
 use forest::PLACES;
@@ -23,8 +23,12 @@ pub fn of_window(clock: Clock, counts: &[u16; 32], log: &[u16]) -> Groups
     requires { ⌜ Readable (clock .n) (now counts) (now log) ⌝ }
     ensures { λ r. ⌜ r ≡ groupsOf clock (now (counts .entry)) (now (log .entry)) ⌝ }
 {
-    let forest = trees::window_forest(clock, counts, log);
+    let mut ones = [0u16; 4096];
+    let mut others = [0u16; 4096];
+    let mut labels = [0u8; 4096];
+    let count = window::gather(clock, counts, log, &mut ones, &mut others, &mut labels);
+    let forest = window::grow(&ones, &others, &labels, count);
     let root = forest::walks::roots(&forest.parent, STEP_LIMIT);
     let tallies = trees::tally(&root, &forest.parent, &forest.label, clock.n + 1);
-    trees::at_roots(&root, tallies, forest.count)
+    trees::at_roots(&root, tallies, count)
 }

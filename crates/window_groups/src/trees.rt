@@ -1,49 +1,12 @@
-// The groups of a window, read off the forest of its links: a group is a tree, and its least hold the smallest label of a parent
-// step in it, less 1. A pass from the last cell to the first stores at each cell's root, and another fetches it from there.
+// What the trees of a forest of links tell: a group is a tree, and its least hold the smallest label of a parent step in it,
+// less 1. A pass from the last cell to the first stores at each cell's root, and another fetches it from there.
 use super::Groups;
 use book_state::CELLS;
 use forest::PLACES;
-use slides::Clock;
 ghost use mathlib.Core.Path.{_≡_};
 ghost use lib.ListN.{length};
 ghost use Rattle.forest.specs.Arrays.{places};
-ghost use Rattle.book_state.specs.Log.{Readable};
-ghost use Rattle.window_groups.specs.Trees.{windowForestOf, Roots, lower, talliesOf, FromOne, groupsAt};
-
-// The forest of a window's links, and how many links there are.
-pub struct WindowForest {
-    pub parent: [u16; PLACES],
-    pub label: [u8; PLACES],
-    pub count: usize,
-}
-
-// The window's links united, newest slide first.
-pub fn window_forest(clock: Clock, counts: &[u16; 32], log: &[u16]) -> WindowForest
-    requires { ⌜ Readable (clock .n) (now counts) (now log) ⌝ }
-    ensures { λ r. ⌜ r ≡ windowForestOf clock (now (counts .entry)) (now (log .entry)) ⌝ }
-{
-    let mut ones = [0u16; 4096];
-    let mut others = [0u16; 4096];
-    let mut labels = [0u8; 4096];
-    let count = window::gather(clock, counts, log, &mut ones, &mut others, &mut labels);
-    let mut parent = forest::fresh_parents();
-    let mut size = forest::fresh_sizes();
-    let mut label = forest::fresh_labels();
-    window::grow(
-        &ones,
-        &others,
-        &labels,
-        count,
-        &mut parent,
-        &mut size,
-        &mut label,
-    );
-    WindowForest {
-        parent,
-        label,
-        count,
-    }
-}
+ghost use Rattle.window_groups.specs.Trees.{Roots, lower, talliesOf, FromOne, groupsAt};
 
 // The label of the cell's step, if that is smaller; a root has no step.
 fn lower_label(cell: u16, parent: u16, label: u8, least: u8) -> u8

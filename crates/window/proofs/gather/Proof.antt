@@ -6,13 +6,14 @@ use borrow.Author.Needs.{needs}
 use native.Mathlib.Omega.{arith}
 use Rattle.slides.specs.Clock.{openSlide}
 use Rattle.window.specs.Window.{windowSlides}
-use Rattle.window.proofs.Putting.{Slides, slides-begin, slides-more, slides-end}
+use Rattle.window.proofs.Putting.{Putting, putting-none, putting-one, putting-all}
+use Rattle.window.proofs.WindowLinks.{slidesFrom, slides-all, slide-parts, slide-few}
 use Rattle.window.proofs.gather.Statement.{statement}
 use Rattle.window.proofs.gather.Tie as tie
 
 abbrev Inv-loop : tie.InvT-loop
 Inv-loop clock counts log ones₀ others₀ labels₀ k existing end₀ age₀ ones others labels end age =
-    Slides clock counts log ones₀ others₀ labels₀ age end ones others labels
+    Putting 256 (windowSlides clock) (slidesFrom clock counts log) 0 ones₀ others₀ labels₀ age end ones others labels
 
 abbrev μ-loop : tie.MeasureT-loop
 μ-loop clock counts log ones₀ others₀ labels₀ k existing end₀ age₀ ones others labels end age = existing - age
@@ -35,16 +36,7 @@ window-slides-requires : tie.Need-window-slides-requires Inv-loop μ-loop
 window-slides-requires c κs = search needs
 
 loop-holds : tie.Need-loop-holds Inv-loop μ-loop
-loop-holds c = slides-begin
-
-cast-put-slide : tie.Need-cast-put-slide Inv-loop μ-loop
-cast-put-slide c = omega arith
-
-sub-put-slide : tie.Need-sub-put-slide Inv-loop μ-loop
-sub-put-slide c = omega arith
-
-sub-put-slide-2 : tie.Need-sub-put-slide-2 Inv-loop μ-loop
-sub-put-slide-2 c = omega arith
+loop-holds c = putting-none (slide-parts _ _ _)
 
 put-slide-requires : tie.Need-put-slide-requires Inv-loop μ-loop
 put-slide-requires c κs =
@@ -52,22 +44,19 @@ put-slide-requires c κs =
     let before = head .before .before in
     (start before .pre, omega (arith, existing before, start before .pre .n-most, head .loop-test .taken, head .before .loop .inv .few))
 
-add-age : tie.Need-add-age Inv-loop μ-loop
-add-age c = omega arith
-
-loop-less : tie.Need-loop-less Inv-loop μ-loop
-loop-less c = omega arith
-
 loop-again : tie.Need-loop-again Inv-loop μ-loop
 loop-again c =
     let head = c .before .before .before .before .before in
     let before = head .before .before in
-    slides-more (head .before .loop .inv) (rw (existing before) at (head .loop-test .taken)) (start before .pre .few)
+    let args = start before .args in
+    putting-one (slide-parts _ _ _) (head .before .loop .inv) (rw (existing before) at (head .loop-test .taken))
+    (slide-few (args .clock) (args .counts .now) (args .log .now) _ (start before .pre .few))
     (rw (opened before) at (c .put-slide .ensures))
 
 returns : tie.Need-returns Inv-loop μ-loop
-returns c = slides-end (c .before .loop .inv) (rw (existing (c .before .before)) at (c .loop-test .left))
+returns c = rw slides-all at (putting-all (slide-parts _ _ _) (c .before .loop .inv) (rw (existing (c .before .before)) at (c .loop-test .left)))
 
+-- no cast, sum or difference leaves its width, and fewer slides are left each turn
 pub gather-spec : {M : Type 1} → statement M
 gather-spec =
     tie.close
@@ -77,11 +66,11 @@ gather-spec =
     open-slide-requires
     window-slides-requires
     loop-holds
-    cast-put-slide
-    sub-put-slide
-    sub-put-slide-2
+    (λ c. omega arith)
+    (λ c. omega arith)
+    (λ c. omega arith)
     put-slide-requires
-    add-age
-    loop-less
+    (λ c. omega arith)
+    (λ c. omega arith)
     loop-again
     returns)

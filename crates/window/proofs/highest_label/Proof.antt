@@ -3,13 +3,13 @@ use Prim.Native.Nat.{_<_}
 use mathlib.Core.Path.{_≡_, refl, sym, _∙_}
 use borrow.Author.Needs.{needs}
 use native.Mathlib.Omega.{arith}
-use Rattle.window.specs.Agree.{agreeFrom}
+use Rattle.window.specs.LinkForest.{highestCut}
 use Rattle.window.proofs.Agreeing.{agree-here, agree-lower, agree-none}
 use Rattle.window.proofs.highest_label.Statement.{statement}
 use Rattle.window.proofs.highest_label.Tie as tie
 
 abbrev Inv-loop : tie.InvT-loop
-Inv-loop parent label top one other cut₀ cut = agreeFrom cut parent label one other ≡ agreeFrom cut₀ parent label one other
+Inv-loop parent label top one other cut₀ cut = highestCut cut parent label one other ≡ highestCut cut₀ parent label one other
 
 abbrev μ-loop : tie.MeasureT-loop
 μ-loop parent label top one other cut₀ cut = cut

@@ -5,8 +5,9 @@ use mathlib.Core.Path.{_≡_}
 use native.Mathlib.Omega.{arith}
 use native.Mathlib.Nat.{pos-of-ne-zero}
 use Rattle.slides.proofs.Slides.{open-fits}
+use Rattle.window.proofs.Gathered.{put-long}
 use Rattle.chain.specs.Chain.{labelOf}
-use Rattle.chain.proofs.ChainCall.{unjoined, too-long, answers, newest-is, gathered, label-is, put-long, room, asked, given}
+use Rattle.chain.proofs.ChainCall.{unjoined, too-long, answers, newest-is, gathered, label-is, room, asked, given}
 use borrow.Author.Needs.{needs}
 use Rattle.chain.proofs.answer.answer.Statement.{statement}
 use Rattle.chain.proofs.answer.answer.Tie as tie

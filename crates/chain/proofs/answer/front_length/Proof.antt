@@ -1,9 +1,9 @@
--- `chain::answer::front` meets its contract: the labels before place i are j or more (proofs/Front.antt).
+-- `chain::answer::front_length` meets its contract: the labels before place i are j or more (proofs/Front.antt).
 use Prim.Native.Nat.{_-_}
 use native.Mathlib.Omega.{arith}
 use Rattle.chain.proofs.Front.{Passed, passed-none, passed-more, passed-stop, passed-all}
-use Rattle.chain.proofs.answer.front.Statement.{statement}
-use Rattle.chain.proofs.answer.front.Tie as tie
+use Rattle.chain.proofs.answer.front_length.Statement.{statement}
+use Rattle.chain.proofs.answer.front_length.Tie as tie
 
 abbrev Inv-loop : tie.InvT-loop
 Inv-loop labels count j i₀ i = Passed labels count j i
@@ -27,8 +27,8 @@ loop-again c =
 returns-2 : tie.Need-returns-2 Inv-loop μ-loop
 returns-2 c = passed-all _ _ (c .before .before .pre) _ _ (c .before .loop .inv) (c .loop-test .left)
 
-pub front-spec : {M : Type 1} → statement M
-front-spec =
+pub front-length-spec : {M : Type 1} → statement M
+front-length-spec =
     tie.close
     (tie.spec
     Inv-loop
