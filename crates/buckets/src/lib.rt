@@ -11,7 +11,14 @@ pub fn entry_at(list: &[u16], place: usize) -> usize
     requires { ⌜ place < length (now list) ⌝ }
     ensures { λ r. ⌜ r ≡ getD (now (list .entry)) place 0 ⌝ }
 {
-    list[place] as usize
+    wide(list[place])
+}
+
+// The number in the width of a length.
+fn wide(x: u16) -> usize
+    ensures { λ r. ⌜ r ≡ x ⌝ }
+{
+    x as usize
 }
 
 // Lists the entries of each key. To begin with no entry is listed: each key's first is the number of entries, which ends a list.
