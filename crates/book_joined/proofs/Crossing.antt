@@ -15,7 +15,7 @@ use lib.ListN.{length, getD}
 use Rattle.graph.specs.Link.{Link, Linked, Chained, same, more, chains}
 use Rattle.graph.specs.Forest.{climb}
 use Rattle.graph.proofs.Chains.{chained-one, chained-trans, chained-left, chained-right, linked-append-cases, true-chains, false-chains}
-use Rattle.forest_cross.specs.Across.{Across, here, by-backward, by-forward, Keyed, JoinedAcross}
+use Rattle.forest_cross.specs.Across.{Across, here, by-backward, by-forward, KeysAreCells, JoinedAcross}
 use Rattle.forest.specs.Arrays.{freshParents, parentIn, parentAtIn, rootsOf, rootsAtOf}
 use Rattle.forest.proofs.Fill.{length-each, getD-each}
 use Rattle.forest.proofs.Held.{root-below}
@@ -38,7 +38,7 @@ key up c h = getD-each (λ c. climb up stepLimit c .root) cells c 0 h
 -- ---- one forest
 
 module _ {up : ℕ → ℕ} (r : Rooted up) where
-  roots-keyed : Keyed (rootsBy up)
+  roots-keyed : KeysAreCells (rootsBy up)
   roots-keyed =
       record { inside = λ c h. let i : c < cells = rw (long up) at h in rw (long up, key up c i) (root-below up cells (r .inside) stepLimit c i) }
 
@@ -102,10 +102,10 @@ module _ {backward labels forward : List ℕ} {cut one other : ℕ} (asked : Ask
   forth = forward-rooted (asked .forward-sound)
 
   -- the crossing may begin
-  pub backward-keyed : Keyed (rootsAtOf backward labels stepLimit cut cells)
+  pub backward-keyed : KeysAreCells (rootsAtOf backward labels stepLimit cut cells)
   backward-keyed = roots-keyed back
 
-  pub forward-keyed : Keyed (rootsOf forward stepLimit cells)
+  pub forward-keyed : KeysAreCells (rootsOf forward stepLimit cells)
   forward-keyed = roots-keyed forth
 
   -- one root in one forest decides

@@ -9,10 +9,8 @@ use borrow.Author.Tests.{eqb-true, eqb-false, eq-eqb, ne-eqb, le-ltb, not-true}
 use lib.Dec.{eqb}
 use Rattle.graph.specs.Link.{Link, Linked, Chained, same, chains}
 use Rattle.graph.proofs.Chains.{chained-sym, chained-alone, linked-append-cases, true-chains, false-chains}
-use Rattle.graph.specs.Forest.{climb, onward}
 use Rattle.forest.specs.Arrays.{freshParents, parentIn, parentAtIn, labelIn}
 use Rattle.forest_check.proofs.Every.{every-each}
-use Rattle.forest.proofs.Climb.{climb-stays, climb-goes, climb-none}
 use Rattle.forest.proofs.Fill.{length-countFrom}
 use Rattle.book_state.specs.Arrays.{cells}
 use Rattle.book_joined.specs.Alone.{spares, aloneIn}
@@ -56,14 +54,6 @@ goes-not-alone up {asked} inside goes = by _ refl
         absurd
         (goes
         (own-parent asked (up asked) (every-each (λ cell _. spares asked cell (up cell)) (freshParents cells) e asked (rw length-countFrom inside))))
-
--- one step of a walk is the step
-pub one-step : (up : ℕ → ℕ) (c : ℕ) → climb up 1 c .root ≡ up c
-one-step up c = by (ℕ-discrete (up c) c)
-  where
-    by : Dec (up c ≡ c) → climb up 1 c .root ≡ up c
-    by (yes e) = ap (λ w. w .root) (climb-stays up 1 c e) ∙ sym e
-    by (no n) = ap (λ w. w .root) (climb-goes up 0 c n ∙ ap onward (climb-none up (up c)))
 
 -- ---- the answer
 

@@ -15,6 +15,7 @@ ghost use lib.ListN.{length};
 ghost use Rattle.graph.specs.Link.{chains};
 ghost use Rattle.forest.specs.Arrays.{parentIn, parentAtIn};
 ghost use Rattle.slides.specs.Clock.{placeOf, openSlide};
+ghost use Rattle.book_state.specs.Arrays.{cells};
 ghost use Rattle.book_state.specs.Order.{bookOf};
 ghost use Rattle.book_joined.specs.Alone.{spares, aloneIn};
 ghost use Rattle.book_joined.specs.Askable.{Askable};
@@ -176,7 +177,7 @@ fn across<'a>(
 // Whether no parent step leaves or reaches the cell, in either forest. Two passes tell, which cost less than the roots of
 // all cells; a cell that takes a step itself is spared them.
 fn alone<'a>(backward: &'a [u16], label: &'a [u8], forward: &'a [u16], cut: u8, cell: u16) -> bool
-    requires { ⌜ (length (now backward) ≡ 1024) × (length (now label) ≡ 1024) × (length (now forward) ≡ 1024) × (cell < 1024) ⌝ }
+    requires { ⌜ (length (now backward) ≡ cells) × (length (now label) ≡ cells) × (length (now forward) ≡ cells) × (cell < cells) ⌝ }
     ensures { λ r. ⌜ r ≡ aloneIn (parentAtIn (now (backward .entry)) (now (label .entry)) cut) cell && aloneIn (parentIn (now (forward .entry))) cell ⌝ }
 {
     if goes(backward, label, cut, cell) {
@@ -202,11 +203,11 @@ fn goes<'a>(parent: &'a [u16], label: &'a [u8], cut: u8, cell: u16) -> bool
 
 // The same of one forest at a cut.
 fn alone_in<'a>(parent: &'a [u16], label: &'a [u8], cut: u8, asked: u16) -> bool
-    requires { ⌜ (length (now parent) ≡ 1024) × (length (now label) ≡ 1024) ⌝ }
+    requires { ⌜ (length (now parent) ≡ cells) × (length (now label) ≡ cells) ⌝ }
     ensures { λ r. ⌜ r ≡ aloneIn (parentAtIn (now (parent .entry)) (now (label .entry)) cut) asked ⌝ }
 {
     let mut cell: u16 = 0;
-    while cell < 1024 {
+    while cell < CELLS {
         let at = cell as usize;
         if !spares(asked, cell, parent[at], label[at], cut) {
             return false;

@@ -1,19 +1,19 @@
 -- The lists begin empty (`none-listed`) and grow by one entry: it becomes the first of its key, and what was first comes next
--- (`list-turn`). What they hold in the end is fixed by the keys (`one-listing`).
+-- (`list-turn`). What is left in the end is fixed (`one-listing`).
 use Prim.Native.Nat.{ℕ, _<_, _≤_, _+_, _-_}
 use mathlib.Core.Path.{_≡_, refl, sym, _∙_}
-use mathlib.Core.List.{List}
+use mathlib.Core.List.{List, _++_}
 use mathlib.Core.Logic.{⊎-elim}
 use native.Mathlib.Decide.{ℕ-discrete, decLe}
 use native.Mathlib.Nat.{eq-or-lt-of-le, le-refl, le-of-lt, le-antisymm}
 use native.Mathlib.Omega.{arith}
 use borrow.Author.Needs.{zero≤}
-use lib.ListN.{length, getD, set, replicate, length-set, length-replicate, getD-replicate}
-use lib.Seq.{getD-set-same, getD-set-other, ext-getD}
-use Rattle.buckets.specs.Listed.{FirstFrom, AllBelow, Listed}
+use lib.ListN.{length, getD, set, take, replicate, length-set, length-replicate, getD-replicate, take-append-drop}
+use lib.Seq.{length-take-le, getD-take, getD-set-same, getD-set-other, ext-getD}
+use Rattle.buckets.specs.Listed.{FirstFrom, AllBelow, Listed, AllListed}
 
 -- no entry is listed yet
-pub none-listed : (bound : ℕ) {keys next : List ℕ} {end : ℕ} → AllBelow bound keys → length next ≡ length keys → end ≡ length keys
+pub none-listed : (bound : ℕ) {keys next : List ℕ} {end : ℕ} → AllBelow bound keys → length keys ≤ length next → end ≡ length keys
     → Listed keys (length (replicate bound end)) (length keys) (replicate bound end) next
 none-listed bound {keys} {next} {end} inside long e =
     rw length-replicate
@@ -30,7 +30,7 @@ none-listed bound {keys} {next} {end} inside long e =
 pub same-bound : {keys first next : List ℕ} {bound bound′ start : ℕ} → bound ≡ bound′ → Listed keys bound start first next → Listed keys bound′ start first next
 same-bound e l = rw e at l
 
--- an entry is the first of its key from itself on
+-- no entry of a key comes before itself
 first-itself : (keys : List ℕ) (i : ℕ) → i < length keys → FirstFrom keys (getD keys i 0) i i
 first-itself keys i h =
     record { from = le-refl i; within = le-of-lt h; has = λ _. refl; noneBefore = λ j le lt e. omega arith }
@@ -73,7 +73,7 @@ module _ {keys first next : List ℕ} {bound i : ℕ} (l : Listed keys bound (i 
         nextOf = next-more;
       }
 
--- a turn: the entries from `entry` on are listed, and then the one before it
+-- a turn: the entries at `entry` and after are listed, and then the one before it
 pub list-turn : {keys first next : List ℕ} {bound entry key : ℕ} → Listed keys bound entry first next → 0 < entry → entry ≤ length keys → key ≡ getD keys (entry - 1) 0
     → (key < length first) × Listed keys bound (entry - 1) (set first key (entry - 1)) (set next (entry - 1) (getD first key 0))
 list-turn {keys} {first} {next} {bound} {entry} l some within e =
@@ -87,9 +87,29 @@ first-least {b = b} f g (no gt) = absurd (f .noneBefore b (g .from) (omega arith
 first-same : {keys : List ℕ} {key start a b : ℕ} → FirstFrom keys key start a → FirstFrom keys key start b → a ≡ b
 first-same {a = a} {b = b} f g = le-antisymm (first-least f g (decLe a b)) (first-least g f (decLe b a))
 
--- two listings of the same keys are equal
-pub one-listing : {keys first next first′ next′ : List ℕ} {bound : ℕ} → Listed keys bound 0 first next → Listed keys bound 0 first′ next′ → (first ≡ first′) × (next ≡ next′)
-one-listing {keys} {first} {next} {first′} {next′} l k = (
-  ext-getD 0 first first′ (l .firstLong ∙ sym (k .firstLong)) (λ key h. first-same (l .firstOf key (rw (l .firstLong) at h)) (k .firstOf key (rw (l .firstLong) at h))),
-  ext-getD 0 next next′ (l .nextLong ∙ sym (k .nextLong)) (λ i h. first-same (l .nextOf i zero≤ (rw (l .nextLong) at h)) (k .nextOf i zero≤ (rw (l .nextLong) at h))),
+-- what listing leaves is fixed by the keys, and beyond them by what was there
+pub one-listing : {keys first next first₁ next₁ first₂ next₂ : List ℕ} → AllListed keys first next first₁ next₁ → AllListed keys first next first₂ next₂
+    → (first₁ ≡ first₂) × (next₁ ≡ next₂)
+one-listing {keys} {first} {next} {first₁} {next₁} {first₂} {next₂} p q = (
+  ext-getD 0 first₁ first₂ (l .firstLong ∙ sym (k .firstLong)) (λ key h. let h′ = rw (l .firstLong) at h in first-same (l .firstOf key h′) (k .firstOf key h′)),
+  sym (take-append-drop n next₁) ∙ (λ i. fronts i ++ (p .rest ∙ sym (q .rest)) i) ∙ take-append-drop n next₂,
 )
+  where
+    n : ℕ
+    n = length keys
+
+    l : Listed keys (length first) 0 first₁ next₁
+    l = p .listed
+
+    k : Listed keys (length first) 0 first₂ next₂
+    k = q .listed
+
+    long : length (take n next₁) ≡ n
+    long = length-take-le n next₁ (l .nextLong)
+
+    fronts : take n next₁ ≡ take n next₂
+    fronts =
+        ext-getD 0 (take n next₁) (take n next₂) (long ∙ sym (length-take-le n next₂ (k .nextLong)))
+        (λ i h.
+        let h′ : i < n = rw long at h in
+        getD-take n next₁ i 0 h′ ∙ first-same (l .nextOf i zero≤ h′) (k .nextOf i zero≤ h′) ∙ sym (getD-take n next₂ i 0 h′))

@@ -4,21 +4,28 @@
 ghost use mathlib.Core.Path.{_≡_};
 ghost use Prim.Native.Nat.{_<_};
 ghost use lib.ListN.{length, getD};
-ghost use Rattle.buckets.specs.Listed.{Listed};
+ghost use Rattle.buckets.specs.Listed.{Listed, AllListed};
 
 // The number at a place of a list.
 pub fn entry_at(list: &[u16], place: usize) -> usize
     requires { ⌜ place < length (now list) ⌝ }
     ensures { λ r. ⌜ r ≡ getD (now (list .entry)) place 0 ⌝ }
 {
-    list[place] as usize
+    wide(list[place])
+}
+
+// The number in the width of a length.
+fn wide(x: u16) -> usize
+    ensures { λ r. ⌜ r ≡ x ⌝ }
+{
+    x as usize
 }
 
 // Lists the entries of each key. To begin with no entry is listed: each key's first is the number of entries, which ends a list.
 pub fn list_entries(keys: &[u16], first: &mut [u16], next: &mut [u16])
     requires few { ⌜ length (now keys) < 65536 ⌝ }
     requires empty { ⌜ Listed (now keys) (length (now first)) (length (now keys)) (now first) (now next) ⌝ }
-    ensures { λ _. ⌜ Listed (now (keys .entry)) (length (now (first .entry))) 0 (now (first .exit)) (now (next .exit)) ⌝ }
+    ensures { λ _. ⌜ AllListed (now (keys .entry)) (now (first .entry)) (now (next .entry)) (now (first .exit)) (now (next .exit)) ⌝ }
 {
     let mut entry = keys.len();
     while 0 < entry {

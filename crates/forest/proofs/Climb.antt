@@ -4,6 +4,7 @@ use Prim.Native.Nat.{ℕ, zero, suc, _+_, _-_, _≤_, _<_}
 use mathlib.Core.Path.{_≡_, refl, sym, ap, _∙_}
 use native.Mathlib.Omega.{arith}
 use native.Mathlib.Nat.{zero-add, add-zero, sub-zero}
+use native.Mathlib.Decide.{ℕ-discrete}
 use borrow.Author.Tests.{eq-eqb, ne-eqb}
 use Rattle.graph.specs.Forest as graph
 use Rattle.graph.specs.Forest.{climb, onward}
@@ -26,6 +27,14 @@ module _ (up : ℕ → ℕ) where
   pub climb-none : (c : ℕ) → climb up 0 c ≡ record { root = c; steps = 0 }
   unfolding climb
   climb-none c = refl
+
+-- one step of a walk is the step
+pub one-step : (up : ℕ → ℕ) (c : ℕ) → climb up 1 c .root ≡ up c
+one-step up c = by (ℕ-discrete (up c) c)
+  where
+    by : Dec (up c ≡ c) → climb up 1 c .root ≡ up c
+    by (yes e) = ap (λ w. w .root) (climb-stays up 1 c e) ∙ sym e
+    by (no n) = ap (λ w. w .root) (climb-goes up 0 c n ∙ ap onward (climb-none up (up c)))
 
 -- a walk with `k` steps ahead of it
 abbrev ahead : ℕ → graph.Walk → Walk

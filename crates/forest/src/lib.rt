@@ -14,7 +14,7 @@ pub struct Walk {
     pub steps: u8,
 }
 
-// Each cell its own root ..
+// The parents of a fresh forest: each cell is its own root.
 pub fn fresh_parents() -> [u16; PLACES]
     ensures { λ r. ⌜ r ≡ freshParents places ⌝ }
 {
@@ -27,13 +27,14 @@ pub fn fresh_parents() -> [u16; PLACES]
     parent
 }
 
-// .. of size 1.
+// Its sizes: each tree has one cell.
 pub fn fresh_sizes() -> [u16; PLACES]
     ensures { λ r. ⌜ r ≡ freshSizes places ⌝ }
 {
     [1; PLACES]
 }
 
+// Its labels, all 0: no step is taken yet.
 pub fn fresh_labels() -> [u8; PLACES]
     ensures { λ r. ⌜ r ≡ freshLabels places ⌝ }
 {

@@ -5,7 +5,7 @@ use super::PLACES;
 use super::Walk;
 
 // The cell's parent; a cell beyond the slice stands still.
-pub fn up(parent: &[u16], cell: u16) -> u16
+fn up(parent: &[u16], cell: u16) -> u16
     ensures { λ r. ⌜ r ≡ parentIn (now (parent .entry)) cell ⌝ }
 {
     let at = cell as usize;

@@ -1,5 +1,5 @@
 -- Walks end where sizes double: from a cell of size s, with every size within n, a walk of m steps has reached a root if
--- n < s * 2 ^ (m + 1), since otherwise a further step would double the size past n. With sizes from 1 on, and n at most
+-- n < s * 2 ^ (m + 1), since otherwise a further step would double the size past n. With sizes of 1 at least, and n at most
 -- 2 ^ m, that is every cell.
 use Prim.Native.Nat.{ℕ, zero, suc, _*_, _-_, _^_, _≤_, _<_}
 use mathlib.Core.Path.{_≡_, refl, sym, _∙_}

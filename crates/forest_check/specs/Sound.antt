@@ -19,7 +19,7 @@ every f i (x ∷ xs) = f i x && every f (suc i) xs
 abbrev pub within : (low end : ℕ) (cell : Cell) (entry : ℕ) → Bool
 within low end c x = leb low x && ltb x end
 
--- a walk without a cut does not exceed `most` steps: after these it stands at a cell that is its own parent
+-- a walk without a cut does not exceed `limit` steps: after these it stands at a cell that is its own parent
 abbrev pub ends : (up : Cell → Cell) (limit : ℕ) (cell : Cell) → Bool
 ends up limit c =
     let r : ℕ = climb up limit c .root in
@@ -32,7 +32,7 @@ endsFrom ps limit c p =
     eqb p c || walks
 
 -- number 1 of one forest: as many sizes as parents; each parent a cell; each size from 1 to the number of cells; and no
--- cell's walk exceeds `most` steps
+-- cell's walk exceeds `limit` steps
 abbrev pub soundOf : (parents : Parents) (sizes : Sizes) (limit : ℕ) → Bool
 soundOf ps ss limit =
     let cells : ℕ = length ps in

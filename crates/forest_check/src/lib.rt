@@ -5,7 +5,7 @@
 // A pass keeps a flag, or the least and the greatest so far, in the width of the entries, and goes on, with no way out: so a
 // machine can do several entries at a time.
 use forest::PLACES;
-use forest::walks;
+use forest::walks::root;
 ghost use mathlib.Core.Path.{_≡_};
 ghost use mathlib.Core.Bool.{cond, _&&_};
 ghost use Prim.Native.Nat.{_-_, _*_, _^_, _≤_, _<_};
@@ -14,7 +14,7 @@ ghost use lib.ListN.{length};
 ghost use Rattle.forest.specs.Arrays.{places, parentIn};
 ghost use Rattle.forest_check.specs.Sound.{every, within, ends, endsFrom, Comparable, Above, doublesAt, soundOf, labelsWithin};
 
-// Whether the arrays are a forest's, with no walk over `most` steps.
+// Whether the arrays are a forest's, with no walk over `limit` steps.
 pub fn sound<'a>(parent: &'a [u16], size: &'a [u16], limit: u8) -> bool
     ensures { λ r. ⌜ r ≡ soundOf (now (parent .entry)) (now (size .entry)) limit ⌝ }
 {
@@ -73,7 +73,7 @@ pub fn all_within(numbers: &[u16], low: usize, end: usize) -> bool
     wide(greatest) < end
 }
 
-// Whether sizes can tell: a walk of `most` steps, each of which doubles a size, reaches the size `cells`, and there are no more
+// Whether sizes can tell: a walk of `limit` steps, each of which doubles a size, reaches the size `cells`, and there are no more
 // than are gathered below.
 fn reaches(limit: u8, cells: usize) -> bool
     ensures { λ r. ⌜ r ≡ (leb cells places && leb cells (2 ^ limit)) ⌝ }
@@ -159,8 +159,9 @@ fn ends_from(parent: &[u16], limit: u8, cell: usize) -> bool
     if limit == 0 {
         return false;
     }
-    let root = walks::root(parent, limit - 1, above);
-    walks::up(parent, root) == root
+    let end = root(parent, limit - 1, above);
+    // The walk has ended where one step more stays.
+    root(parent, 1, end) == end
 }
 
 // The number in the width of a length.

@@ -10,12 +10,12 @@ use native.Mathlib.Omega.{arith}
 use borrow.Author.Tests.{eqb-true, eqb-false, not-true, not-false}
 use lib.Dec.{eqb}
 use lib.ListN.{length, getD, replicate}
-use Rattle.forest_cross.specs.Across.{Across, here, by-backward, by-forward, Keyed, JoinedAcross}
-use Rattle.forest_cross.specs.Marks.{Met, Crossed, Begins}
+use Rattle.forest_cross.specs.Across.{Across, here, by-backward, by-forward, KeysAreCells, JoinedAcross}
+use Rattle.forest_cross.specs.Marks.{Met, Crossed, MayEnter}
 
 -- a cell's group has a mark
-pub keyed-inside : {keys : List ℕ} {c group : ℕ} → Keyed keys → c < length keys → group ≡ getD keys c 0 → group < length keys
-keyed-inside {c = c} k h e = rw e (k .inside c h)
+pub key-inside : {keys : List ℕ} {c group : ℕ} → KeysAreCells keys → c < length keys → group ≡ getD keys c 0 → group < length keys
+key-inside {c = c} k h e = rw e (k .inside c h)
 
 -- no group is marked yet
 none-marked : (n group : ℕ) → _≡_ {A = ℕ} (getD (replicate n 0) group 0) 0
@@ -23,16 +23,16 @@ none-marked zero group = refl
 none-marked (suc n) zero = refl
 none-marked (suc n) (suc group) = none-marked n group
 
-pub begins-unmarked : (n : ℕ) {keys : List ℕ} {group : ℕ} → group < length keys → Begins keys (replicate n 0) group
-begins-unmarked n {keys} {group} h = record { inside = h; unmarked = none-marked n group }
+pub enters-unmarked : (n : ℕ) {keys : List ℕ} {group : ℕ} → group < length keys → MayEnter keys (replicate n 0) group
+enters-unmarked n {keys} {group} h = record { inside = h; unmarked = none-marked n group }
 
 module _ {own other m o : List ℕ} {one group : ℕ} (n : ℕ) (even : length other ≡ length own) (inside : one < length own) (e : group ≡ getD own one 0) (q : Crossed own other group (replicate n 0) (replicate n 0) m o) where
   -- a cell that has been met on one side has been met on the other
   to-other : (c : ℕ) → c < length own → Met own m c → Met other o c
-  to-other c h k = ⊎-elim (λ z. absurd (omega (arith, none-marked n (getD own c 0)))) (λ y. y) (q .ownSpread .closed c h k)
+  to-other c h k = ⊎-elim (λ z. absurd (omega (arith, none-marked n (getD own c 0)))) (λ y. y) (q .ownGrown .closed c h k)
 
   to-own : (c : ℕ) → c < length own → Met other o c → Met own m c
-  to-own c h k = ⊎-elim (λ z. absurd (omega (arith, none-marked n (getD other c 0)))) (λ y. y) (q .otherSpread .closed c (omega arith) k)
+  to-own c h k = ⊎-elim (λ z. absurd (omega (arith, none-marked n (getD other c 0)))) (λ y. y) (q .otherGrown .closed c (omega arith) k)
 
   -- so each cell that the first leads across to has been met on both
   all-met : {c : ℕ} → Across own other one c → Met own m c × Met other o c
@@ -52,7 +52,7 @@ module _ {own other m o : List ℕ} {one group : ℕ} (n : ℕ) (even : length o
       record {
         yes = λ t.
             let k : Met own m c = rw (← g) (pos-of-ne-zero (eqb-false _ _ (not-true _ t))) in
-            ⊎-elim (λ z. absurd (omega (arith, none-marked n (getD own c 0)))) (λ r. r one inside (sym e)) (q .ownSpread .reached c h k);
+            ⊎-elim (λ z. absurd (omega (arith, none-marked n (getD own c 0)))) (λ r. r one inside (sym e)) (q .ownGrown .reached c h k);
         never = λ t r.
             let k : 1 ≤ getD m asked 0 = rw g (all-met r .0) in
             omega (arith, eqb-true (getD m asked 0) 0 (not-false _ t));

@@ -1,6 +1,6 @@
 -- A crossing from one group, said of its own side and the other side, for both functions that cross.
 --
--- What a call does with the marks, after what was done before it, is one spread again (`spread-on`). In the loop over the
+-- What a call does with the marks, after what was done before it, is one spread again (`grown-on`). In the loop over the
 -- cells of the group, those below `cell` have been passed, that is, met on the other side (`Passing`, `Walked`). A turn that calls
 -- nothing is a turn like the others: where the shared group has its mark, nothing done is a crossing (`crossed-already`).
 -- Where the loop ends, the whole group has been passed, so the group's mark and the loop are the crossing (`passed-all`).
@@ -15,22 +15,22 @@ use lib.ListN.{length, getD, set, length-set}
 use lib.Seq.{getD-set-same, getD-set-other}
 use Rattle.buckets.proofs.Walk.{Walked, walk-begins, walk-on, walk-ends, walked-map, entry-rises}
 use Rattle.forest_cross.specs.Across.{Across, here, by-backward, by-forward}
-use Rattle.forest_cross.specs.Marks.{Sides, Begins, Marked, Met, Reached, Spread, Crossed}
+use Rattle.forest_cross.specs.Marks.{OneSide, BothSides, MayEnter, Marked, Met, Reached, MarksGrown, Crossed}
 use Rattle.forest_cross.proofs.Unmarked.{unmarked, unmarked-kept, unmarked-less}
 
--- from b one goes on with the sides exchanged
+-- a crossing that goes on from b, with the sides exchanged
 across-on : {own other : List ℕ} {a b c : ℕ} → length other ≡ length own → Across own other a b → Across other own b c → Across own other a c
 across-on even r (here e) = rw (← e) r
 across-on even r (by-backward s h e) = by-forward (across-on even r s) (rw even at h) e
 across-on even r (by-forward s h e) = by-backward (across-on even r s) (rw even at h) e
 
 -- nothing done
-spread-none : {R : ℕ → Type 0} {keys others marks othersAfter : List ℕ} → Spread R keys others marks marks othersAfter
-spread-none = record { long = refl; kept = λ g m. m; reached = λ c h m. inl m; closed = λ c h m. inl m }
+grown-none : {R : ℕ → Type 0} {keys others marks othersAfter : List ℕ} → MarksGrown R keys others marks marks othersAfter
+grown-none = record { long = refl; kept = λ g m. m; reached = λ c h m. inl m; closed = λ c h m. inl m }
 
 -- one spread after another
-spread-on : {R S : ℕ → Type 0} {keys others m₀ m₁ m₂ o₁ o₂ : List ℕ} → ((c : ℕ) → S c → R c) → ((g : ℕ) → Marked o₁ g → Marked o₂ g) → Spread R keys others m₀ m₁ o₁ → Spread S keys others m₁ m₂ o₂ → Spread R keys others m₀ m₂ o₂
-spread-on on kept p q =
+grown-on : {R S : ℕ → Type 0} {keys others m₀ m₁ m₂ o₁ o₂ : List ℕ} → ((c : ℕ) → S c → R c) → ((g : ℕ) → Marked o₁ g → Marked o₂ g) → MarksGrown R keys others m₀ m₁ o₁ → MarksGrown S keys others m₁ m₂ o₂ → MarksGrown R keys others m₀ m₂ o₂
+grown-on on kept p q =
     record {
       long = q .long ∙ p .long;
       kept = λ g m. q .kept g (p .kept g m);
@@ -40,16 +40,19 @@ spread-on on kept p q =
 
 -- where the group has its mark, nothing done is a crossing
 pub crossed-already : {own other m o : List ℕ} {group : ℕ} → (getD m group 0 ≡ 0 → ⊥) → Crossed own other group m o m o
-crossed-already ne = record { met = pos-of-ne-zero ne; ownSpread = spread-none; otherSpread = spread-none }
+crossed-already ne = record { met = pos-of-ne-zero ne; ownGrown = grown-none; otherGrown = grown-none }
 
 -- the sides with other marks, as many
-remarked : {own first next other otherFirst otherNext m o m₁ o₁ : List ℕ} → Sides own first next other otherFirst otherNext m o → length m₁ ≡ length m → length o₁ ≡ length o → Sides own first next other otherFirst otherNext m₁ o₁
+remarked : {own first next other otherFirst otherNext m o m₁ o₁ : List ℕ} → BothSides own first next other otherFirst otherNext m o → length m₁ ≡ length m → length o₁ ≡ length o → BothSides own first next other otherFirst otherNext m₁ o₁
 remarked s e f =
     record {
-      ownSide = record { listed = s .ownSide .listed; marked = e ∙ s .ownSide .marked };
-      otherSide = record { listed = s .otherSide .listed; marked = f ∙ s .otherSide .marked };
+      ownSide = side (s .ownSide) e;
+      otherSide = side (s .otherSide) f;
       even = s .even;
     }
+  where
+    side : {keys first next marks marks₁ : List ℕ} → OneSide keys first next marks → length marks₁ ≡ length marks → OneSide keys first next marks₁
+    side o e = record { keyed = o .keyed; listed = o .listed; long = o .long; marked = rw e (o .marked) }
 
 module _ (marks : List ℕ) (group : ℕ) where
   -- one mark more loses none
@@ -64,34 +67,34 @@ module _ (marks : List ℕ) (group : ℕ) where
 
 -- in the loop over the cells of the group, which began with the marks m₀ and o₀; t groups were unmarked before that
 pub record Passing (t : ℕ) (own first next other otherFirst otherNext : List ℕ) (group : ℕ) (m₀ o₀ m o : List ℕ) (cell : ℕ) : Type 0 where
-  pub sides : Sides own first next other otherFirst otherNext m o
+  pub sides : BothSides own first next other otherFirst otherNext m o
   pub fewer : unmarked m + unmarked o < t
   pub inside : group < length own
   pub walked : Walked own group (Met other o) cell
-  pub ownSpread : Spread (Reached own other group) own other m₀ m o
-  pub otherSpread : Spread (Reached own other group) other own o₀ o m
+  pub ownGrown : MarksGrown (Reached own other group) own other m₀ m o
+  pub otherGrown : MarksGrown (Reached own other group) other own o₀ o m
 
 module _ {t : ℕ} {own first next other otherFirst otherNext : List ℕ} {group : ℕ} where
   -- the group is marked, and the loop begins at its first cell
-  pub passing-begins : {m o : List ℕ} {cell : ℕ} → unmarked m + unmarked o ≡ t → Sides own first next other otherFirst otherNext m o → Begins own m group → cell ≡ getD first group 0 → Passing t own first next other otherFirst otherNext group (set m group 1) o (set m group 1) o cell
+  pub passing-begins : {m o : List ℕ} {cell : ℕ} → unmarked m + unmarked o ≡ t → BothSides own first next other otherFirst otherNext m o → MayEnter own m group → cell ≡ getD first group 0 → Passing t own first next other otherFirst otherNext group (set m group 1) o (set m group 1) o cell
   passing-begins {m} {o} {cell} e s b a =
       let less = unmarked-less m group (omega (arith, s .ownSide .marked, b .inside)) (b .unmarked) in
       record {
         sides = remarked s (simp length-set) refl;
         fewer = omega arith;
         inside = b .inside;
-        walked = walk-begins (s .ownSide .listed) (b .inside) a;
-        ownSpread = spread-none;
-        otherSpread = spread-none;
+        walked = walk-begins (s .ownSide .listed) (omega (arith, s .ownSide .long, b .inside)) a;
+        ownGrown = grown-none;
+        otherGrown = grown-none;
       }
 
   module _ {m₀ o₀ m o : List ℕ} {cell : ℕ} (p : Passing t own first next other otherFirst otherNext group m₀ o₀ m o cell) where
     -- the group of a cell on the other side
     pub shared-inside : {c shared : ℕ} → c < length own → shared ≡ getD other c 0 → shared < length other
-    shared-inside {c} h e = rw e (p .sides .otherSide .listed .inside c (omega (arith, p .sides .even)))
+    shared-inside {c} h e = rw e (p .sides .otherSide .keyed .inside c (omega (arith, p .sides .even)))
 
     -- what a call on the other side asks
-    pub passing-asks : {shared : ℕ} → shared < length other → getD o shared 0 ≡ 0 → (unmarked o + unmarked m < t) × (Sides other otherFirst otherNext own first next o m × Begins other o shared)
+    pub passing-asks : {shared : ℕ} → shared < length other → getD o shared 0 ≡ 0 → (unmarked o + unmarked m < t) × (BothSides other otherFirst otherNext own first next o m × MayEnter other o shared)
     passing-asks h e = (
       omega (arith, p .fewer),
       (
@@ -112,33 +115,33 @@ module _ {t : ℕ} {own first next other otherFirst otherNext : List ℕ} {group
         -- the shared group has been crossed from: on to the next cell
         pub passing-turns : {cell′ : ℕ} → cell′ ≡ getD next cell 0 → Passing t own first next other otherFirst otherNext group m₀ o₀ m₁ o₁ cell′
         passing-turns a =
-            let mine = unmarked-kept m m₁ (q .otherSpread .long) (q .otherSpread .kept) in
-            let theirs = unmarked-kept o o₁ (q .ownSpread .long) (q .ownSpread .kept) in
+            let mine = unmarked-kept m m₁ (q .otherGrown .long) (q .otherGrown .kept) in
+            let theirs = unmarked-kept o o₁ (q .ownGrown .long) (q .ownGrown .kept) in
             let met : Met other o₁ cell = rw (← e) (q .met) in
             record {
-              sides = remarked (p .sides) (q .otherSpread .long) (q .ownSpread .long);
+              sides = remarked (p .sides) (q .otherGrown .long) (q .ownGrown .long);
               fewer = omega (arith, p .fewer);
               inside = p .inside;
-              walked = walk-on (p .sides .ownSide .listed) (walked-map (λ c. q .ownSpread .kept _) (p .walked)) h met a;
-              ownSpread = spread-on reached-on (q .ownSpread .kept) (p .ownSpread) (q .otherSpread);
-              otherSpread = spread-on reached-on (q .otherSpread .kept) (p .otherSpread) (q .ownSpread);
+              walked = walk-on (p .sides .ownSide .listed) (walked-map (λ c. q .ownGrown .kept _) (p .walked)) h met a;
+              ownGrown = grown-on reached-on (q .ownGrown .kept) (p .ownGrown) (q .otherGrown);
+              otherGrown = grown-on reached-on (q .otherGrown .kept) (p .otherGrown) (q .ownGrown);
             }
 
   -- the loop ends
   pub passed-all : {marks o₀ m o : List ℕ} {cell : ℕ} → Passing t own first next other otherFirst otherNext group (set marks group 1) o₀ m o cell → length own ≤ cell → Crossed own other group marks o₀ m o
   passed-all {marks} {o₀} {m} {o} {cell} p end =
-      let s = p .ownSpread in
+      let s = p .ownGrown in
       let long : length m ≡ length marks = s .long ∙ simp length-set in
       let h : group < length marks = omega (arith, p .sides .ownSide .marked, p .inside) in
       let new : (c : ℕ) → Met own (set marks group 1) c → Met own marks c ⊎ (getD own c 0 ≡ group) = λ c k. marks-new marks group _ k (ℕ-discrete (getD own c 0) group) in
       record {
         met = s .kept group (rw (getD-set-same marks group 1 0 h) (le-refl 1));
-        ownSpread =
+        ownGrown =
             record {
               long = long;
               kept = λ g k. s .kept g (marks-kept marks group h g k (ℕ-discrete g group));
               reached = λ c hc k. ⊎-elim (λ b. ⊎-elim inl (λ e. inr (λ a ha g. by-backward (here refl) hc (g ∙ sym e))) (new c b)) inr (s .reached c hc k);
               closed = λ c hc k. ⊎-elim (λ b. ⊎-elim inl (λ e. inr (walk-ends (p .walked) end c hc e)) (new c b)) inr (s .closed c hc k);
             };
-        otherSpread = p .otherSpread;
+        otherGrown = p .otherGrown;
       }

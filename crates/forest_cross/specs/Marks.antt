@@ -7,21 +7,24 @@ use mathlib.Core.List.{List}
 use lib.ListN.{length, getD}
 use Rattle.numbers.specs.Kinds.{Cell}
 use Rattle.buckets.specs.Listed.{Listed}
-use Rattle.forest_cross.specs.Across.{Across}
+use Rattle.forest_cross.specs.Across.{Across, KeysAreCells}
 
--- one side: the key of each cell, the lists of its groups, and a mark for each group
-pub record Side (keys first next marks : List ℕ) : Type 0 where
-  pub listed : Listed keys (length keys) 0 first next
-  pub marked : length marks ≡ length keys
+-- what a crossing is lent of one side: each cell's key is a cell, the cells of each key are listed, and each key has a mark. The
+-- lists and the marks may have more places than there are cells
+pub record OneSide (keys first next marks : List ℕ) : Type 0 where
+  pub keyed : KeysAreCells keys
+  pub listed : Listed keys (length first) 0 first next
+  pub long : length keys ≤ length first
+  pub marked : length keys ≤ length marks
 
 -- both sides, of the same cells
-pub record Sides (own first next other otherFirst otherNext ownMarks otherMarks : List ℕ) : Type 0 where
-  pub ownSide : Side own first next ownMarks
-  pub otherSide : Side other otherFirst otherNext otherMarks
+pub record BothSides (own first next other otherFirst otherNext ownMarks otherMarks : List ℕ) : Type 0 where
+  pub ownSide : OneSide own first next ownMarks
+  pub otherSide : OneSide other otherFirst otherNext otherMarks
   pub even : length other ≡ length own
 
--- a crossing may begin: the group is not marked yet
-pub record Begins (keys marks : List ℕ) (group : ℕ) : Type 0 where
+-- a group may be entered: it is not marked yet
+pub record MayEnter (keys marks : List ℕ) (group : ℕ) : Type 0 where
   pub inside : group < length keys
   pub unmarked : getD marks group 0 ≡ 0
 
@@ -37,8 +40,8 @@ Met keys marks c = Marked marks (getD keys c 0)
 abbrev pub Reached : (own other : List ℕ) (group : ℕ) (cell : Cell) → Type 0
 Reached own other group c = (a : ℕ) → a < length own → getD own a 0 ≡ group → Across own other a c
 
--- the marks of one side, before and after: none is lost; a cell that is newly met is reached; and it is met on the other side too
-pub record Spread (Reach : ℕ → Type 0) (keys others before after othersAfter : List ℕ) : Type 0 where
+-- how the marks of one side have grown: none is lost; a cell that is newly met is reached, and it is met on the other side too
+pub record MarksGrown (Reach : ℕ → Type 0) (keys others before after othersAfter : List ℕ) : Type 0 where
   pub long : length after ≡ length before
   pub kept : (group : ℕ) → Marked before group → Marked after group
   pub reached : (c : ℕ) → c < length keys → Met keys after c → Met keys before c ⊎ Reach c
@@ -47,5 +50,5 @@ pub record Spread (Reach : ℕ → Type 0) (keys others before after othersAfter
 -- the marks of both sides, before and after a crossing from the own group
 pub record Crossed (own other : List ℕ) (group : ℕ) (ownBefore otherBefore ownAfter otherAfter : List ℕ) : Type 0 where
   pub met : Marked ownAfter group
-  pub ownSpread : Spread (Reached own other group) own other ownBefore ownAfter otherAfter
-  pub otherSpread : Spread (Reached own other group) other own otherBefore otherAfter ownAfter
+  pub ownGrown : MarksGrown (Reached own other group) own other ownBefore ownAfter otherAfter
+  pub otherGrown : MarksGrown (Reached own other group) other own otherBefore otherAfter ownAfter

@@ -4,10 +4,12 @@
 use buckets::entry_at;
 use buckets::list_entries;
 use forest::PLACES;
-ghost use Prim.Native.Nat.{_<_};
+ghost use mathlib.Core.Path.{_≡_};
+ghost use Prim.Native.Nat.{_<_, _≤_};
+ghost use lib.ListN.{length};
 ghost use Rattle.forest.specs.Arrays.{places};
-ghost use Rattle.forest_cross.specs.Across.{Keyed, JoinedAcross};
-ghost use Rattle.forest_cross.specs.Marks.{Sides, Begins, Crossed};
+ghost use Rattle.forest_cross.specs.Across.{KeysAreCells, JoinedAcross};
+ghost use Rattle.forest_cross.specs.Marks.{BothSides, MayEnter, Crossed};
 
 // Marks a backward group, then crosses to the forward group of each of its cells that has no mark yet.
 fn from_backward(
@@ -21,9 +23,9 @@ fn from_backward(
     backward_marks: &mut [u8],
     forward_marks: &mut [u8],
 )
-    requires sides { ⌜ Sides (now backward) (now «backward_first») (now «backward_next») (now forward) (now «forward_first»)
+    requires sides { ⌜ BothSides (now backward) (now «backward_first») (now «backward_next») (now forward) (now «forward_first»)
         (now «forward_next») (now «backward_marks») (now «forward_marks») ⌝ }
-    requires begins { ⌜ Begins (now backward) (now «backward_marks») group ⌝ }
+    requires enter { ⌜ MayEnter (now backward) (now «backward_marks») group ⌝ }
     ensures { λ _.
         ⌜ Crossed (now (backward .entry)) (now (forward .entry)) group (now («backward_marks» .entry))
         (now («forward_marks» .entry)) (now («backward_marks» .exit)) (now («forward_marks» .exit)) ⌝ }
@@ -61,9 +63,9 @@ fn from_forward(
     forward_marks: &mut [u8],
     backward_marks: &mut [u8],
 )
-    requires sides { ⌜ Sides (now forward) (now «forward_first») (now «forward_next») (now backward) (now «backward_first»)
+    requires sides { ⌜ BothSides (now forward) (now «forward_first») (now «forward_next») (now backward) (now «backward_first»)
         (now «backward_next») (now «forward_marks») (now «backward_marks») ⌝ }
-    requires begins { ⌜ Begins (now forward) (now «forward_marks») group ⌝ }
+    requires enter { ⌜ MayEnter (now forward) (now «forward_marks») group ⌝ }
     ensures { λ _.
         ⌜ Crossed (now (forward .entry)) (now (backward .entry)) group (now («forward_marks» .entry))
         (now («backward_marks» .entry)) (now («forward_marks» .exit)) (now («backward_marks» .exit)) ⌝ }
@@ -91,26 +93,24 @@ fn from_forward(
 
 // Whether one cell's backward group leads across to the other cell's. Each group is entered once and each list walked
 // once, so the time is linear in the cells.
-pub fn joined_across(
-    backward: &[u16; PLACES],
-    forward: &[u16; PLACES],
-    one: u16,
-    other: u16,
-) -> bool
-    requires backward { ⌜ Keyed (now backward) ⌝ }
-    requires forward { ⌜ Keyed (now forward) ⌝ }
-    requires one { ⌜ one < places ⌝ }
-    requires other { ⌜ other < places ⌝ }
+pub fn joined_across(backward: &[u16], forward: &[u16], one: u16, other: u16) -> bool
+    requires backward { ⌜ KeysAreCells (now backward) ⌝ }
+    requires forward { ⌜ KeysAreCells (now forward) ⌝ }
+    requires even { ⌜ length (now forward) ≡ length (now backward) ⌝ }
+    requires few { ⌜ length (now backward) ≤ places ⌝ }
+    requires one { ⌜ one < length (now backward) ⌝ }
+    requires other { ⌜ other < length (now backward) ⌝ }
     ensures { λ r. ⌜ JoinedAcross (now (backward .entry)) (now (forward .entry)) one other r ⌝ }
 {
     let start = entry_at(backward, one as usize);
     let asked = entry_at(backward, other as usize);
-    // 1024 ends a list: to begin with, all are empty.
-    let mut backward_first = [1024u16; PLACES];
-    let mut backward_next = [1024u16; PLACES];
+    // The number of cells ends a list: to begin with, all are empty.
+    let end = backward.len() as u16;
+    let mut backward_first = [end; PLACES];
+    let mut backward_next = [end; PLACES];
     list_entries(backward, &mut backward_first, &mut backward_next);
-    let mut forward_first = [1024u16; PLACES];
-    let mut forward_next = [1024u16; PLACES];
+    let mut forward_first = [end; PLACES];
+    let mut forward_next = [end; PLACES];
     list_entries(forward, &mut forward_first, &mut forward_next);
     let mut backward_marks = [0u8; PLACES];
     let mut forward_marks = [0u8; PLACES];

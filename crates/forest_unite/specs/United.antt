@@ -11,7 +11,7 @@ use Rattle.graph.specs.Forest.{climb, goesUnder}
 use Rattle.forest.specs.Arrays.{parentIn, sizeIn}
 use Rattle.forest_unite.specs.declared.Merge.{Merge}
 
--- the ends have one root already: nothing hangs
+-- the ends have one root already: nothing is merged
 abbrev pub noMerge : Merge
 noMerge = record { different = false; child = 0; top = 0; size = 0 }
 
@@ -19,7 +19,7 @@ noMerge = record { different = false; child = 0; top = 0; size = 0 }
 abbrev pub under : (sizes : Sizes) (child top : Cell) → Merge
 under ss child top = record { different = true; child = child; top = top; size = (sizeIn ss top + sizeIn ss child) % 2 ^ 16 }
 
--- who hangs under whom: of two different roots the one with the smaller tree, and on equal sizes the larger number
+-- which root goes under which: of two different roots the one with the smaller tree, and on equal sizes the larger number
 abbrev pub mergeOfRoots : (sizes : Sizes) (a b : Cell) → Merge
 mergeOfRoots ss a b = cond (eqb a b) noMerge (cond (goesUnder (sizeIn ss) a b) (under ss a b) (under ss b a))
 

@@ -1,6 +1,6 @@
-// What a link does to a forest in arrays: roots.rt says who hangs under whom, and the stores here are one array each. Parents
+// What a link does to a forest in arrays: roots.rt says which root goes under which, and each function here stores into one array. Parents
 // are never shortened: a link stores one parent, that of a root.
-pub mod roots; // roots.rt: who hangs under whom
+pub mod roots; // roots.rt: which root goes under which
 
 use forest::PLACES;
 ghost use mathlib.Core.Path.{_≡_};

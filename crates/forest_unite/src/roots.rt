@@ -1,4 +1,4 @@
-// The roots of a link's ends: who hangs under whom, and the size of the tree then. Nothing is stored here.
+// The roots of a link's ends: which goes under which, and the size of the tree then. Nothing is stored here.
 ghost use mathlib.Core.Path.{_≡_};
 ghost use Rattle.graph.specs.Forest.{goesUnder};
 ghost use Rattle.forest.specs.Arrays.{sizeIn};
@@ -15,7 +15,7 @@ pub fn merge_of<'a>(parent: &'a [u16], size: &'a [u16], limit: u8, one: u16, oth
     merge_of_roots(size, a, b)
 }
 
-// Of two roots, who hangs under whom.
+// Of two roots, which goes under which.
 pub fn merge_of_roots(size: &[u16], a: u16, b: u16) -> Merge
     ensures { λ r. ⌜ r ≡ mergeOfRoots (now (size .entry)) a b ⌝ }
 {

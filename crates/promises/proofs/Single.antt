@@ -121,6 +121,6 @@ single =
       all-within = λ numbers low end. equal;
       labels-within = λ label bound. equal;
       entry-at = λ list place. equal;
-      list-entries = λ keys first r s p q. let e = one-listing p q in both r s (e .0, e .1) (refl, refl);
+      list-entries = λ keys first next r s p q. let e = one-listing p q in both r s (e .0, e .1) (refl, refl);
       joined-across = λ backward forward one other. one-answer;
     }

@@ -145,7 +145,7 @@ pub record Single : Type 0 where
   pub labels-within : (label : List ℕ) (bound : ℕ) → AtMostOne (λ r. r ≡ labelsWithin label bound)
   -- buckets
   pub entry-at : (list : List ℕ) (place : ℕ) → AtMostOne (λ r. r ≡ getD list place 0)
-  pub list-entries : (keys first : List ℕ) →
-      AtMostOne {A = List ℕ × List ℕ} (λ r. lists.Listed keys (length first) 0 (r .0) (r .1))
+  pub list-entries : (keys first next : List ℕ) →
+      AtMostOne {A = List ℕ × List ℕ} (λ r. lists.AllListed keys first next (r .0) (r .1))
   -- forest_cross
   pub joined-across : (backward forward : List ℕ) (one other : ℕ) → AtMostOne (JoinedAcross backward forward one other)

@@ -1,9 +1,10 @@
 -- `book_joined::across` meets its contract: the keys are the roots of the two forests, so the crossing decides; and a cell
 -- that stands alone is chained with itself alone.
 use mathlib.Core.Path.{_≡_, sym, _∙_, subst⁻¹}
+use native.Mathlib.Omega.{arith}
 use borrow.Author.Needs.{needs}
 use lib.ListN.{length}
-use Rattle.forest_cross.specs.Across.{Keyed}
+use Rattle.forest_cross.specs.Across.{KeysAreCells}
 use Rattle.book_state.specs.Arrays.{cells}
 use Rattle.book_joined.proofs.Unlinked.{one-alone, other-alone}
 use Rattle.book_joined.proofs.Crossing.{backward-keyed, forward-keyed, across-decides}
@@ -50,8 +51,8 @@ roots-requires c κs = search needs
 joined-across-requires : tie.Need-joined-across-requires
 joined-across-requires c κs =
     let start = entry2 (c .before .before .before .before) in (
-      subst⁻¹ Keyed (c .before .before .before .roots-at .ensures) (backward-keyed (start .pre)),
-      (subst⁻¹ Keyed (c .before .before .roots .ensures) (forward-keyed (start .pre)), (start .pre .one-cell, start .pre .other-cell)),
+      subst⁻¹ KeysAreCells (c .before .before .before .roots-at .ensures) (backward-keyed (start .pre)),
+      (subst⁻¹ KeysAreCells (c .before .before .roots .ensures) (forward-keyed (start .pre)), (omega arith, (omega arith, (omega (arith, start .pre .one-cell), omega (arith, start .pre .other-cell))))),
     )
 
 returns-3 : tie.Need-returns-3
@@ -70,5 +71,7 @@ across-spec =
     returns-2
     roots-at-requires
     roots-requires
+    (λ c. search needs)
+    (λ c. search needs)
     joined-across-requires
     returns-3)

@@ -14,7 +14,7 @@ slice-aggregate-next-one c = sym (places-long _ (c .before .before .before .befo
 list-entries-requires : tie.Need-list-entries-requires
 list-entries-requires c κs =
     let given = c .before .before .before .before .before .before .pre in
-    (omega (arith, given .few), none-listed places (given .onesInside) (places-long _ (given .few)) refl)
+    (omega (arith, given .few), none-listed places (given .onesInside) (omega (arith, places-long _ (given .few))) refl)
 
 slice-aggregate-next-other : tie.Need-slice-aggregate-next-other
 slice-aggregate-next-other c = sym (places-long _ (c .before .before .before .before .before .before .before .before .before .before .before .pre .few))
@@ -22,14 +22,14 @@ slice-aggregate-next-other c = sym (places-long _ (c .before .before .before .be
 list-entries-requires-2 : tie.Need-list-entries-requires-2
 list-entries-requires-2 c κs =
     let given = c .before .before .before .before .before .before .before .before .before .before .before .before .before .pre in
-    (omega (arith, given .few, given .even), none-listed places (given .othersInside) (places-long _ (given .few) ∙ sym (given .even)) (sym (given .even)))
+    (omega (arith, given .few, given .even), none-listed places (given .othersInside) (omega (arith, places-long _ (given .few), given .even)) (sym (given .even)))
 
 trail-over-requires : tie.Need-trail-over-requires
 trail-over-requires c κs =
     let back = c .before .before .before .before .before .before .before .before in
     let forth = back .before .before .before .before .before .before .before in
     let given = forth .before .before .before .before .before .before .before .pre in
-    (given, both-ways given (same-bound (omega arith) (forth .list-entries .ensures)) (same-bound (omega arith) (back .list-entries2 .ensures)))
+    (given, both-ways given (same-bound (omega arith) (forth .list-entries .ensures .listed)) (same-bound (omega arith) (back .list-entries2 .ensures .listed)))
 
 pub best-trail-spec : {M : Type 1} → statement M
 best-trail-spec =

@@ -60,8 +60,8 @@ pub +from-backward+from-forward-spec : {M : Type 1} → statement M
     (⊎-elim (λ w. rw (w .8, w .9) (w .3 .ensures)) (λ w. rw (w .1, w .2) (crossed-already (w .0 .left))) (c .before .if1 .came))
     (c .entry-at3 .ensures))
     -- the loop ends
-    (λ c. c .before .loop .inv .ownSpread .long ∙ simp length-set)
-    (λ c. c .before .loop .inv .otherSpread .long)
+    (λ c. c .before .loop .inv .ownGrown .long ∙ simp length-set)
+    (λ c. c .before .loop .inv .otherGrown .long)
     (λ c. passed-all (c .before .loop .inv) (c .loop-test .left)))
     -- and word for word the same
     (λ t. forward.spec
@@ -82,6 +82,6 @@ pub +from-backward+from-forward-spec : {M : Type 1} → statement M
     passing-turns (c .before .before .before .before .before .loop .inv) (c .before .before .before .before .loop-test .taken) (c .before .before .before .entry-at2 .ensures)
     (⊎-elim (λ w. rw (w .8, w .9) (w .3 .ensures)) (λ w. rw (w .1, w .2) (crossed-already (w .0 .left))) (c .before .if1 .came))
     (c .entry-at3 .ensures))
-    (λ c. c .before .loop .inv .ownSpread .long ∙ simp length-set)
-    (λ c. c .before .loop .inv .otherSpread .long)
+    (λ c. c .before .loop .inv .ownGrown .long ∙ simp length-set)
+    (λ c. c .before .loop .inv .otherGrown .long)
     (λ c. passed-all (c .before .loop .inv) (c .loop-test .left)))

@@ -3,46 +3,56 @@
 use borrow.Author.Needs.{needs}
 use Prim.Native.Nat.{_<_}
 use native.Mathlib.Omega.{arith}
+use lib.ListN.{length}
 use Rattle.forest.specs.Arrays.{places}
 use Rattle.buckets.proofs.Listing.{none-listed, same-bound}
-use Rattle.forest_cross.proofs.Joined.{keyed-inside, begins-unmarked, mark-answers}
+use Rattle.forest_cross.proofs.Joined.{key-inside, enters-unmarked, mark-answers}
 use Rattle.forest_cross.proofs.joined_across.Statement.{statement}
 use Rattle.forest_cross.proofs.joined_across.Tie as tie
 
--- the two cells' groups have marks
-start-inside : (c : tie.After-entry-at) → c .entry-at .result < places
-start-inside c = omega (arith, keyed-inside (c .before .before .pre .0) (omega arith) (c .entry-at .ensures))
+-- the function's entry
+abbrev entry : tie.After-entry-at2 → tie.Start
+entry c = c .before .before .before .before
 
-asked-inside : (c : tie.After-entry-at2) → c .entry-at2 .result < places
-asked-inside c = omega (arith, keyed-inside (c .before .before .before .before .pre .0) (omega arith) (c .entry-at2 .ensures))
+-- the two cells' groups have marks
+start-inside : (c : tie.After-entry-at2) → c .before .entry-at .result < length (entry c .args .backward .now)
+start-inside c = key-inside (entry c .pre .0) (omega (arith, entry c .pre)) (c .before .entry-at .ensures)
+
+asked-inside : (c : tie.After-entry-at2) → c .entry-at2 .result < length (entry c .args .backward .now)
+asked-inside c = key-inside (entry c .pre .0) (omega (arith, entry c .pre)) (c .entry-at2 .ensures)
 
 list-entries-requires : tie.Need-list-entries-requires
 list-entries-requires c κs =
-    let given = c .before .before .before .before .before .before .before in
-    (omega arith, none-listed places (λ i h. omega (arith, given .pre .0 .inside i h)) (omega arith) (omega arith))
+    let given = entry (c .before .before) in
+    (omega (arith, given .pre), none-listed places (λ i h. omega (arith, given .pre .0 .inside i h, given .pre)) (omega (arith, given .pre)) (omega arith))
 
 list-entries-requires-2 : tie.Need-list-entries-requires-2
 list-entries-requires-2 c κs =
-    let given = c .before .before .before .before .before .before .before .before .before .before .before .before .before in
-    (omega arith, none-listed places (λ i h. omega (arith, given .pre .1 .0 .inside i h)) (omega arith) (omega arith))
+    let given = entry (c .before .before .before .before .before .before .before) in
+    (omega (arith, given .pre), none-listed places (λ i h. omega (arith, given .pre .1 .0 .inside i h, given .pre)) (omega (arith, given .pre)) (omega (arith, given .pre)))
 
 from-backward-requires : tie.Need-from-backward-requires
 from-backward-requires c κs =
-    let groups = c .before .before .before .before .before .before .before .before .before .before .before .before .before .before .before .before .before .before .before .before in
-    let given = groups .before .before .before .before in (
+    let groups = c .before .before .before .before .before .before .before .before .before .before .before .before .before .before .before .before in
+    let given = entry groups in (
       record {
-        ownSide = record { listed = same-bound (omega (arith, given .good)) (c .before .before .before .before .before .before .before .before .before .before .before .before .before .before .before .before .list-entries .ensures); marked = omega (arith, given .good) };
-        otherSide = record { listed = same-bound (omega (arith, given .good)) (c .before .before .before .before .before .before .before .before .before .before .list-entries2 .ensures); marked = omega (arith, given .good) };
-        even = omega (arith, given .good);
+        ownSide = record { keyed = given .pre .0; listed = same-bound (omega arith) (c .before .before .before .before .before .before .before .before .before .before .before .before .before .list-entries .ensures .listed); long = omega (arith, given .pre); marked = omega (arith, given .pre) };
+        otherSide = record { keyed = given .pre .1 .0; listed = same-bound (omega arith) (c .before .before .before .before .before .before .before .before .list-entries2 .ensures .listed); long = omega (arith, given .pre); marked = omega (arith, given .pre) };
+        even = given .pre .1 .1 .0;
       },
-      begins-unmarked places (omega (arith, given .good, start-inside (groups .before .before))),
+      enters-unmarked places (start-inside groups),
     )
+
+mark-inside : tie.Need-array-read-result
+mark-inside c =
+    let groups = c .before .before .before .before .before .before .before .before .before .before .before .before .before .before .before .before .before .before .before in
+    omega (arith, asked-inside groups, entry groups .pre)
 
 returns : tie.Need-returns
 returns c =
-    let groups = c .before .before .before .before .before .before .before .before .before .before .before .before .before .before .before .before .before .before .before .before .before .before .before in
-    let given = groups .before .before .before .before in
-    mark-answers places (omega (arith, given)) (omega (arith, given)) (groups .before .before .entry-at .ensures) (c .before .before .from-backward .ensures) (omega (arith, given)) (groups .entry-at2 .ensures)
+    let groups = c .before .before .before .before .before .before .before .before .before .before .before .before .before .before .before .before .before .before .before in
+    let given = entry groups in
+    mark-answers places (given .pre .1 .1 .0) (omega (arith, given .pre)) (groups .before .entry-at .ensures) (c .before .before .from-backward .ensures) (omega (arith, given .pre)) (groups .entry-at2 .ensures)
 
 pub joined-across-spec : {M : Type 1} → statement M
 joined-across-spec =
@@ -50,6 +60,7 @@ joined-across-spec =
     (tie.spec
     (λ c κs. search needs)
     (λ c κs. search needs)
+    (λ c. search needs)
     (λ c. search needs)
     (λ c. search needs)
     list-entries-requires
@@ -63,5 +74,5 @@ joined-across-spec =
     (λ c. search needs)
     (λ c. search needs)
     from-backward-requires
-    (λ c. asked-inside (c .before .before .before .before .before .before .before .before .before .before .before .before .before .before .before .before .before .before .before .before .before .before .before))
+    mark-inside
     returns)

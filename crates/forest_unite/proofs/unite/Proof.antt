@@ -1,5 +1,5 @@
--- `forest_unite::unite` meets its contract: where the roots are one nothing hangs; else what each store leaves, for the hang that was read
--- first.
+-- `forest_unite::unite` meets its contract: where the roots are one nothing is stored; otherwise each store leaves what the merge says that
+-- was read first.
 use mathlib.Core.Path.{_≡_, refl, sym, ap, _∙_}
 use borrow.Author.Needs.{needs}
 use borrow.Author.Tests.{eq-eqb}
