@@ -12,7 +12,7 @@
  * Link with libkerb.a, which wants no more of the C library than memcpy, memmove and memset. Every function answers every input.
  * What it cannot do it refuses by a number of `enum kerb_number`, and then the book and all lent places are as they were and
  * the other fields of the answer are 0 (kerb_play alone keeps the records before the one that it refuses). Beside each
- * function stand its refusals in the order in which they are asked, and the stack that it takes at most.
+ * function stand its refusals in the order in which they are asked, and the stack that it takes at most, below its caller's frame.
  *
  * What the proofs take for granted of a caller in C:
  *   - a pointer is not NULL (not even where its length is 0), is aligned for its type, and stands for as many places as the
@@ -31,7 +31,7 @@
 #include <stddef.h>
 #include <stdint.h>
 
-/* The version of this header. kerb_version() gives that of the library: see KERB_OPENS_WITH below. */
+/* The version of this header. A library of another version does not link: see kerb_opening. */
 #define KERB_VERSION 2u
 
 /* A number that nobody looks at is an alarm that nobody hears: the compiler warns where it can. */
@@ -149,10 +149,18 @@ struct kerb_groups_answer {
     uint8_t number;
 };
 
+/* A link as the unit sends it, for tables of the caller's own. */
 struct kerb_record {
     uint32_t tick;
     uint16_t one; /* in the unit's numbers */
     uint16_t other;
+};
+
+struct kerb_record_answer {
+    uint32_t tick;
+    uint16_t one; /* in the unit's numbers */
+    uint16_t other;
+    uint8_t number;
 };
 
 struct kerb_slide_answer {
@@ -160,3 +168,275 @@ struct kerb_slide_answer {
     uint32_t last;
     bool exists; /* whether any tick reaches the slide; else the ticks are 0 */
 };
+
+/*
+ * The layout that the library was built with, byte by byte. Where one of these lines fails to compile, the compiler lays structs
+ * out in another way (packed, say, or for another machine), and every call would go wrong.
+ */
+#if defined(__cplusplus) && __cplusplus >= 201103L
+#define KERB_CERTAIN(name, what) static_assert(what, #name)
+#elif !defined(__cplusplus) && defined(__STDC_VERSION__) && __STDC_VERSION__ >= 201112L
+#define KERB_CERTAIN(name, what) _Static_assert(what, #name)
+#else
+#define KERB_CERTAIN(name, what) typedef char kerb_certain_##name[(what) ? 1 : -1]
+#endif
+#define KERB_SIZE(type, bytes) KERB_CERTAIN(size_of_##type, sizeof(struct type) == (bytes))
+#define KERB_AT(type, field, place) KERB_CERTAIN(type##_##field, offsetof(struct type, field) == (place))
+
+KERB_SIZE(kerb_settings, 12);
+KERB_AT(kerb_settings, t0, 0);
+KERB_AT(kerb_settings, b, 4);
+KERB_AT(kerb_settings, n, 8);
+KERB_AT(kerb_settings, mounting, 9);
+
+KERB_SIZE(kerb_time, 16);
+KERB_AT(kerb_time, t0, 0);
+KERB_AT(kerb_time, b, 4);
+KERB_AT(kerb_time, time, 8);
+KERB_AT(kerb_time, n, 12);
+KERB_AT(kerb_time, pad, 13);
+
+KERB_SIZE(kerb_fitting, 4);
+KERB_AT(kerb_fitting, mounting, 0);
+KERB_AT(kerb_fitting, pad, 1);
+
+KERB_SIZE(kerb_book, 9300);
+KERB_AT(kerb_book, forward_parent, 0);
+KERB_AT(kerb_book, forward_size, 2048);
+KERB_AT(kerb_book, backward_parent, 4096);
+KERB_AT(kerb_book, backward_size, 6144);
+KERB_AT(kerb_book, counts, 8192);
+KERB_AT(kerb_book, clock, 8256);
+KERB_AT(kerb_book, backward_label, 8272);
+KERB_AT(kerb_book, fitting, 9296);
+
+KERB_SIZE(kerb_joined_answer, 3);
+KERB_AT(kerb_joined_answer, number, 0);
+KERB_AT(kerb_joined_answer, yes, 1);
+KERB_AT(kerb_joined_answer, steps, 2);
+
+KERB_SIZE(kerb_chain_answer, 16);
+KERB_AT(kerb_chain_answer, newest, 0);
+KERB_AT(kerb_chain_answer, cells, 8);
+KERB_AT(kerb_chain_answer, hold, 10);
+KERB_AT(kerb_chain_answer, number, 11);
+
+KERB_SIZE(kerb_read_answer, 20);
+KERB_AT(kerb_read_answer, settings, 0);
+KERB_AT(kerb_read_answer, m, 12);
+KERB_AT(kerb_read_answer, number, 16);
+
+KERB_SIZE(kerb_play_answer, 8);
+KERB_AT(kerb_play_answer, taken, 0);
+KERB_AT(kerb_play_answer, number, 4);
+
+KERB_SIZE(kerb_list_answer, 16);
+KERB_AT(kerb_list_answer, length, 0);
+KERB_AT(kerb_list_answer, number, 8);
+
+KERB_SIZE(kerb_groups_answer, 8);
+KERB_AT(kerb_groups_answer, links, 0);
+KERB_AT(kerb_groups_answer, number, 4);
+
+KERB_SIZE(kerb_record, 8);
+KERB_AT(kerb_record, tick, 0);
+KERB_AT(kerb_record, one, 4);
+KERB_AT(kerb_record, other, 6);
+
+KERB_SIZE(kerb_record_answer, 12);
+KERB_AT(kerb_record_answer, tick, 0);
+KERB_AT(kerb_record_answer, one, 4);
+KERB_AT(kerb_record_answer, other, 6);
+KERB_AT(kerb_record_answer, number, 8);
+
+KERB_SIZE(kerb_slide_answer, 12);
+KERB_AT(kerb_slide_answer, first, 0);
+KERB_AT(kerb_slide_answer, last, 4);
+KERB_AT(kerb_slide_answer, exists, 8);
+
+#undef KERB_AT
+#undef KERB_SIZE
+#undef KERB_CERTAIN
+
+/*
+ * THE BOOK. The cells of links are in the unit's numbers, those of questions and answers in the lorry's; kerb_lorry_cell leads
+ * from the one to the other. `log_places` is the number of 16-bit places of the log, at least KERB_LOG_PLACES.
+ */
+
+/* A book that was never opened: 0 in every byte. Every call but opening gives 1 for it. Stack: 1 KB,
+   and 9.3 KB more where the compiler copies the book. */
+KERB_LOOK_AT struct kerb_book kerb_never_opened(void);
+
+/*
+ * A fresh history, whatever the book was: the time is settings.t0, and nothing is stored. Clears the first KERB_LOG_PLACES places
+ * of the log and no others. Every byte of the book is written.
+ * Refuses, in this order: 2, 6. Never 1: the book may be any memory. Stack: 5 KB.
+ */
+KERB_LOOK_AT uint8_t kerb_opening(struct kerb_book *book, uint16_t *log, size_t log_places, struct kerb_settings settings);
+
+/*
+ * A link of two cells, IN THE UNIT'S NUMBERS. A later tick first moves the time to it, as kerb_clock does; a link that is refused
+ * moves nothing. A cell may be linked with itself and a link repeated: both are stored and count.
+ * Refuses, in this order: 1, 6, 3, 4, 5. Stack: 5 KB.
+ */
+KERB_LOOK_AT uint8_t kerb_link(struct kerb_book *book, uint16_t *log, size_t log_places, uint32_t tick, uint16_t one,
+                               uint16_t other);
+
+/*
+ * The time moves to the tick, and nothing is logged. Slides that are jumped over are empty ones.
+ * Refuses, in this order: 1, 6, 4. Stack: 5 KB.
+ */
+KERB_LOOK_AT uint8_t kerb_clock(struct kerb_book *book, const uint16_t *log, size_t log_places, uint32_t tick);
+
+/*
+ * Whether links of the window chain the two cells, IN THE LORRY'S NUMBERS. A cell is always joined with itself.
+ * Refuses, in this order: 1, 3; then `yes` is false. Stack: 165 KB, the most of all calls.
+ */
+KERB_LOOK_AT struct kerb_joined_answer kerb_joined(const struct kerb_book *book, uint16_t one, uint16_t other);
+
+/*
+ * Why the two cells are joined, IN THE LORRY'S NUMBERS, and for how long. The chain goes to the front of the buffer, from `one` to
+ * `other`; later places keep what they had. `chain_places` is the number of 16-bit places of the buffer, at least
+ * KERB_CHAIN_PLACES. For a cell and itself the chain is that cell, `newest` is one above the open slide and `hold` is n, read as
+ * "always". For two cells `hold` is 0 to n - 1.
+ * Refuses, in this order: 1, 6 (the log or the buffer), 3, 7, 8 (which never comes). Stack: 50 KB.
+ */
+KERB_LOOK_AT struct kerb_chain_answer kerb_chain(const struct kerb_book *book, const uint16_t *log, size_t log_places,
+                                                 uint16_t one, uint16_t other, uint16_t *chain, size_t chain_places);
+
+/*
+ * The groups of the window: at place c of the three arrays stands, of the group of cell c, its smallest cell, how many cells it
+ * has, and its least hold, for how many further closings any two of them stay joined. Cell c in the lorry's numbers. A cell that
+ * no link holds to another is alone: its own number, 1, and n, read as "always". Each length is that of its array in places, at
+ * least KERB_CELLS; later places keep what they had.
+ * Refuses, in this order: 1, 6 (the log or an array). Stack: 74 KB.
+ */
+KERB_LOOK_AT struct kerb_groups_answer kerb_groups(const struct kerb_book *book, const uint16_t *log, size_t log_places,
+                                                   uint16_t *first, size_t first_places, uint16_t *size, size_t size_places,
+                                                   uint8_t *hold, size_t hold_places);
+
+/* The open slide k, that of the book's time. 0 for a book that was never opened. Stack: 1 KB. */
+KERB_LOOK_AT uint64_t kerb_open_slide(const struct kerb_book *book);
+
+/* The ticks of a slide, from the first to the last, as far as ticks reach. Stack: 1 KB. */
+KERB_LOOK_AT struct kerb_slide_answer kerb_slide_ticks(const struct kerb_book *book, uint64_t slide);
+
+/*
+ * CELLS. A number that is no cell, 1024 or more, has no mirror and comes back as it is. Stack: 1 KB each.
+ */
+
+/* The lorry's number of a cell of the unit: mirrored for KERB_MIRRORED, the same for any other number. */
+KERB_LOOK_AT uint16_t kerb_lorry_cell(uint8_t mounting, uint16_t cell);
+
+/* The unit's number of a cell of the lorry, the other way round. */
+KERB_LOOK_AT uint16_t kerb_unit_cell(uint8_t mounting, uint16_t cell);
+
+/* The ring of a cell, cell / 64, and its sector, cell % 64; in the unit's numbers as in the lorry's. */
+KERB_LOOK_AT uint16_t kerb_ring(uint16_t cell);
+KERB_LOOK_AT uint16_t kerb_sector(uint16_t cell);
+
+/*
+ * LINK FILES. m records of 8 bytes, m from 0 to 8,000, then 24 bytes of settings and trailer. The cells of records are in the
+ * unit's numbers. Lengths of files, records, outputs and texts count bytes.
+ */
+
+/*
+ * The settings of a link file, and how many records it has. The records are not judged: playing them does.
+ * Refuses, in this order: 9, 10, 11, 12, 2. Stack: 1 KB.
+ */
+KERB_LOOK_AT struct kerb_read_answer kerb_read(const uint8_t *file, size_t file_bytes);
+
+/*
+ * A link file of these settings and record bytes, 8m + 24 bytes at the front of the output; no byte beyond is touched. What the
+ * records say is not judged.
+ * Refuses, in this order: 2, 9 (the records have over 64,000 bytes, or no multiple of 8), 6 (the output). Stack: 1 KB.
+ */
+KERB_LOOK_AT uint8_t kerb_write(struct kerb_settings settings, const uint8_t *records, size_t records_bytes, uint8_t *out,
+                                size_t out_bytes);
+
+/*
+ * The records of a link file into a book, one after the other, each by the link call. Does not open the book: who plays a file
+ * opens one first, with the settings that kerb_read gives. Stops at the first record that is refused: `taken` is then its
+ * place from 0, and THE RECORDS BEFORE IT STAY in the book.
+ * Refuses, in this order: 9, 10, 11, 12, 2 as kerb_read, with nothing played; then for each record 1, 6, 3, 4, 5. Stack: 32 KB.
+ */
+KERB_LOOK_AT struct kerb_play_answer kerb_play(struct kerb_book *book, uint16_t *log, size_t log_places, const uint8_t *file,
+                                               size_t file_bytes);
+
+/*
+ * The text that the program kerblist prints for a link file, at the front of the output; no byte beyond is touched, and no zero
+ * byte ends it. A file that is refused is a line of the text ("refused 9 file"), and the number is 0 all the same.
+ * Refuses: 6, an output under KERB_LISTING_BYTES. Stack: 90 KB.
+ */
+KERB_LOOK_AT struct kerb_list_answer kerb_list(const uint8_t *file, size_t file_bytes, uint8_t *out, size_t out_bytes);
+
+/*
+ * One record, 8 bytes at the front of the output; cells in the unit's numbers, not judged. m of them are what kerb_write takes.
+ * Refuses: 6, an output under KERB_RECORD_BYTES. Stack: 1 KB.
+ */
+KERB_LOOK_AT uint8_t kerb_pack(uint32_t tick, uint16_t one, uint16_t other, uint8_t *out, size_t out_bytes);
+
+/*
+ * Record i, counted from 0, of record bytes or of a link file. Its cells are not judged.
+ * Refuses: 6, no 8 bytes from 8i on. Stack: 1 KB.
+ */
+KERB_LOOK_AT struct kerb_record_answer kerb_unpack(const uint8_t *records, size_t records_bytes, uint32_t i);
+
+/*
+ * THE VERSION. A library has the function of its own version and of no other, and opening a book calls it: a program that was
+ * compiled with this header does not link with a library of another version ("undefined reference to kerb_version_2").
+ * kerb_version() gives KERB_VERSION, kerb_book_size() sizeof(struct kerb_book).
+ */
+uint32_t kerb_version_2(void);
+#define kerb_version kerb_version_2
+
+size_t kerb_book_size(void);
+
+KERB_LOOK_AT static inline uint8_t kerb_opening_2(struct kerb_book *book, uint16_t *log, size_t log_places,
+                                                  struct kerb_settings settings)
+{
+    (void)kerb_version_2();
+    return kerb_opening(book, log, log_places, settings);
+}
+#define kerb_opening kerb_opening_2
+
+/* A number in words. */
+static inline const char *kerb_status_text(uint8_t number)
+{
+    switch (number) {
+    case KERB_DONE:
+        return "done";
+    case KERB_NO_BOOK:
+        return "the book was never opened, or was altered beyond its ranges";
+    case KERB_SETTINGS:
+        return "n, B or the mounting is outside its values";
+    case KERB_NO_CELL:
+        return "a cell is 1024 or more";
+    case KERB_EARLY:
+        return "the tick is before the book's time";
+    case KERB_FULL:
+        return "the link's slide already holds 256 links";
+    case KERB_SHORT:
+        return "a lent buffer is too short";
+    case KERB_NO_TRAIL:
+        return "no links of the window chain the two cells";
+    case KERB_LONG_TRAIL:
+        return "the chain would have more than 1,024 cells";
+    case KERB_LENGTH:
+        return "the length is that of no link file, or of no records";
+    case KERB_LETTERS:
+        return "the last four bytes of the file are not KERB";
+    case KERB_OFFSET:
+        return "the file's offset and count do not agree with its length";
+    case KERB_PAD:
+        return "a pad byte of the file is not zero";
+    default:
+        return "no number of this library";
+    }
+}
+
+#ifdef __cplusplus
+}
+#endif
+
+#endif

@@ -1,14 +1,11 @@
 //! The proved library, through the safe wrapper over its static archive, as a panel program uses it: the book stays where it
-//! is, and the copies that the wrapper makes count as the library's.
+//! is, and what the wrapper costs counts as the library's.
 
 use crate::any_book::{chain_refused, joined_refused, AnyBook};
 use kerb::calls::{ChainAnswer, JoinedAnswer};
-use kerb::{Book, Refusal, Settings, LOG_PLACES};
+use kerb::{Book, LorryCell, Refusal, Settings, UnitCell};
 
-pub struct Library {
-    book: Book,
-    log: Vec<u16>,
-}
+pub struct Library(Book);
 
 fn number(done: Result<(), Refusal>) -> u8 {
     done.map_or_else(Refusal::number, |()| 0)
@@ -19,22 +16,19 @@ impl AnyBook for Library {
     const FINDS_CHAINS: bool = true;
 
     fn opened(settings: Settings) -> Library {
-        let mut book = Book::never_opened();
-        let mut log = vec![0; LOG_PLACES];
-        book.opening(&mut log, settings).expect("good settings");
-        Library { book, log }
+        Library(Book::open(settings).expect("good settings"))
     }
 
     fn link(&mut self, tick: u32, one: u16, other: u16) -> u8 {
-        number(self.book.link(&mut self.log, tick, one, other))
+        number(self.0.link(tick, UnitCell(one), UnitCell(other)))
     }
 
     fn clock(&mut self, tick: u32) -> u8 {
-        number(self.book.clock(&self.log, tick))
+        number(self.0.clock(tick))
     }
 
     fn joined(&mut self, one: u16, other: u16) -> JoinedAnswer {
-        match self.book.joined(one, other) {
+        match self.0.joined(LorryCell(one), LorryCell(other)) {
             Ok(given) => JoinedAnswer {
                 number: 0,
                 yes: given.yes,
@@ -45,7 +39,7 @@ impl AnyBook for Library {
     }
 
     fn chain(&mut self, one: u16, other: u16, lent: &mut [u16]) -> ChainAnswer {
-        match self.book.chain(&self.log, one, other, lent) {
+        match self.0.chain(LorryCell(one), LorryCell(other), lent) {
             Ok(given) => ChainAnswer {
                 newest: given.newest,
                 cells: given.cells,

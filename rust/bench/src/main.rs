@@ -1,6 +1,6 @@
 //! The benchmark: the library against baselines, everyone in turns in one run. It is a report and no test: nothing fails by time.
-//! The head of docs/BENCH.md says what it measures. With the name of a contender and that of a workload it only plays the one
-//! into the other, for callgrind.
+//! The head of docs/BENCH.md says what it measures. With the word `stack` it prints the stack of each call alone. With the name
+//! of a contender and that of a workload it only plays the one into the other, for callgrind.
 
 mod agreement;
 mod any_book;
@@ -30,8 +30,9 @@ fn main() {
     let words: Vec<String> = std::env::args().skip(1).collect();
     match words.as_slice() {
         [] => report(&contenders::all(), &workloads()),
+        [word] if word == "stack" => report::print_stacks(),
         [contender, workload] => play(contender, workload),
-        _ => panic!("no words, or a contender and the first word of a workload"),
+        _ => panic!("no words, or stack, or a contender and the first word of a workload"),
     }
 }
 

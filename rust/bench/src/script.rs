@@ -2,7 +2,7 @@
 //! be asked for where there are some.
 
 use crate::workload::{Batch, Calls, Kind, Pair, Workload};
-use kerb::Settings;
+use kerb::{Mounting, Settings};
 use oracle::{Book, LOG_PLACES};
 use std::collections::VecDeque;
 use streams::touching::{path, touching_cell};
@@ -27,7 +27,7 @@ impl Script {
             t0: 0,
             b: B,
             n,
-            mounting: 1,
+            mounting: Mounting::Plain,
         };
         let mut book = Book::new();
         book.opening(for_oracle(settings), LOG_PLACES)
@@ -125,7 +125,17 @@ pub fn for_oracle(settings: Settings) -> oracle::Settings {
     oracle::Settings {
         n: u32::from(settings.n),
         b: settings.b,
-        mounting: u32::from(settings.mounting),
+        mounting: u32::from(settings.mounting.number()),
         t0: settings.t0,
+    }
+}
+
+/// Settings that were judged.
+pub fn for_library(settings: oracle::Settings) -> Settings {
+    Settings {
+        t0: settings.t0,
+        b: settings.b,
+        n: settings.n as u8,
+        mounting: Mounting::try_from(settings.mounting as u8).expect("a mounting"),
     }
 }

@@ -5,7 +5,7 @@ use crate::library::Library;
 use crate::scenes::{deep_crossing, dense, file, long_chain};
 use crate::stack::used;
 use crate::workload::{Calls, Pair, Workload};
-use kerb::{Book, Settings, CHAIN_PLACES, LISTING_BYTES, LOG_PLACES};
+use kerb::{Mounting, RawBook, Settings, UnitCell, CHAIN_PLACES, LISTING_BYTES, LOG_PLACES};
 use oracle::{LONGEST_FILE, MOST_RECORDS, TAIL_BYTES};
 use std::hint::black_box;
 
@@ -25,17 +25,19 @@ fn changes(stacks: &mut Vec<Stack>) {
         t0: 0,
         b: 1,
         n: 2,
-        mounting: 2,
+        mounting: Mounting::Mirrored,
     };
-    let mut book = Box::new(Book::never_opened());
+    let mut book = Box::new(RawBook::never_opened());
     let mut log = vec![0; LOG_PLACES];
-    let never_opened = used(|| *book = Book::never_opened());
+    let never_opened = used(|| *book = RawBook::never_opened());
     stacks.push(("never_opened", never_opened));
     let opening = used(|| book.opening(&mut log, settings).expect("good settings"));
     stacks.push(("opening", opening));
-    let link = used(|| book.link(&mut log, 1, 1, 2).expect("a good link"));
+    let link_at =
+        |book: &mut RawBook, log: &mut [u16], tick| book.link(log, tick, UnitCell(1), UnitCell(2));
+    let link = used(|| link_at(&mut book, &mut log, 1).expect("a good link"));
     stacks.push(("link", link));
-    let link = used(|| book.link(&mut log, 2, 2, 3).expect("a good link"));
+    let link = used(|| link_at(&mut book, &mut log, 2).expect("a good link"));
     stacks.push(("link into the next chunk", link));
     let clock = used(|| book.clock(&log, 3).expect("a good tick"));
     stacks.push(("clock", clock));

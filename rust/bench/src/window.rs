@@ -1,6 +1,6 @@
 //! The window as a plain queue of links, for the baselines that keep nothing else: (c) and (d).
 
-use kerb::Settings;
+use kerb::{Mounting, Settings};
 use std::collections::VecDeque;
 
 pub const CELLS: usize = 1024;
@@ -104,7 +104,7 @@ impl Window {
     }
 
     fn lorry_cell(&self, cell: u16) -> u16 {
-        if self.settings.mounting == 2 {
+        if self.settings.mounting == Mounting::Mirrored {
             cell ^ 63
         } else {
             cell

@@ -1,6 +1,7 @@
 //! The book's fields and the log's places, as docs/BOOK.md lays them out.
 
-use kerb::{Book, Clock};
+use kerb::calls::{Clock, Fitting};
+use kerb::RawBook;
 use oracle::{Forest, History, Settings, LINKS_PER_SLIDE};
 
 /// Places that each of the two halves has in the counts, whatever n is.
@@ -16,9 +17,9 @@ pub fn log_place(spot: usize, i: usize) -> usize {
     2 * (spot * LINKS_PER_SLIDE + i)
 }
 
-/// A book that was never opened: 0 in every field.
-pub fn never_opened() -> Book {
-    Book {
+/// A book that was never opened: 0 in every byte.
+pub fn never_opened() -> RawBook {
+    RawBook {
         forward_parent: [0; 1024],
         forward_size: [0; 1024],
         backward_parent: [0; 1024],
@@ -29,17 +30,21 @@ pub fn never_opened() -> Book {
             b: 0,
             time: 0,
             n: 0,
+            pad: [0; 3],
         },
         backward_label: [0; 1024],
-        mounting: 0,
+        fitting: Fitting {
+            mounting: 0,
+            pad: [0; 3],
+        },
     }
 }
 
-/// The book that a history has to have, each forest built anew by the rule.
-pub fn book_of(history: &History) -> Book {
+/// The book that a history has to have, each forest built anew by the rule; its pad bytes are 0.
+pub fn book_of(history: &History) -> RawBook {
     let forward = history.forward_forest();
     let backward = history.backward_forest();
-    Book {
+    RawBook {
         forward_parent: narrow(&forward.parent),
         forward_size: narrow(&forward.size),
         backward_parent: narrow(&backward.parent),
@@ -50,18 +55,22 @@ pub fn book_of(history: &History) -> Book {
             b: history.settings.b,
             time: history.time,
             n: history.settings.n as u8,
+            pad: [0; 3],
         },
         backward_label: labels_of(&backward),
-        mounting: history.settings.mounting as u8,
+        fitting: Fitting {
+            mounting: history.settings.mounting as u8,
+            pad: [0; 3],
+        },
     }
 }
 
 /// What a book was opened with.
-pub fn settings_of(book: &Book) -> Settings {
+pub fn settings_of(book: &RawBook) -> Settings {
     Settings {
         n: u32::from(book.clock.n),
         b: book.clock.b,
-        mounting: u32::from(book.mounting),
+        mounting: u32::from(book.fitting.mounting),
         t0: book.clock.t0,
     }
 }

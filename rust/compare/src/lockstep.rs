@@ -28,7 +28,7 @@ impl Lockstep {
     pub fn new() -> Lockstep {
         Lockstep {
             oracle: Book::new(),
-            library: State::with_new_log(kerb::Book::never_opened()),
+            library: State::with_new_log(kerb::RawBook::never_opened()),
             expected: State::with_new_log(never_opened()),
             calls: 0,
         }
@@ -155,6 +155,18 @@ mod tests {
         books.library.book.backward_label[1023] = 3;
         let text = difference(&mut books, &LINK);
         assert!(text.contains("backward_label[1023] 0"), "{text}");
+    }
+
+    #[test]
+    fn a_changed_pad_byte_is_noticed() {
+        let mut books = opened();
+        books.library.book.clock.pad[2] = 1;
+        let text = difference(&mut books, &LINK);
+        assert!(text.contains("clock.pad[2] 0"), "{text}");
+        let mut books = opened();
+        books.library.book.fitting.pad[0] = 1;
+        let text = difference(&mut books, &LINK);
+        assert!(text.contains("fitting.pad[0] 0"), "{text}");
     }
 
     #[test]

@@ -1,8 +1,13 @@
 //! The numbers that a call can give, 0 aside.
 
-use std::fmt;
+use core::fmt;
 
-/// A refusal; each has its number in the table.
+/// A refusal; each has its number in the table, and says it in words.
+///
+/// ```
+/// let refusal = kerb::Refusal::Early;
+/// assert_eq!(refusal.to_string(), "number 4: the tick is before the book's time");
+/// ```
 #[derive(Clone, Copy, Debug, PartialEq, Eq)]
 #[repr(u8)]
 pub enum Refusal {
@@ -67,7 +72,7 @@ impl fmt::Display for Refusal {
     }
 }
 
-impl std::error::Error for Refusal {}
+impl core::error::Error for Refusal {}
 
 #[cfg(test)]
 mod tests {

@@ -3,19 +3,14 @@
 use super::forest::{Labelled, CELLS};
 use super::SameMethod;
 use crate::any_book::AnyBook;
-use kerb::Settings;
-use oracle::{read, record, Record};
+use crate::script::for_library;
+use oracle::{record, Record};
 use std::io::Write;
 
 /// What kerblist prints for a file of which every record is taken, at the front of the output; gives its length.
 pub fn list<const CHECKED: bool>(file: &[u8], out: &mut [u8]) -> usize {
-    let head = read(file).expect("a good file");
-    let settings = Settings {
-        t0: head.settings.t0,
-        b: head.settings.b,
-        n: head.settings.n as u8,
-        mounting: head.settings.mounting as u8,
-    };
+    let head = oracle::read(file).expect("a good file");
+    let settings = for_library(head.settings);
     let mut book = SameMethod::<CHECKED>::opened(settings);
     for place in 0..head.m as usize {
         let Record { tick, a, b } = record(file, place);

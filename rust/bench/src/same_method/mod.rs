@@ -10,8 +10,8 @@ mod trail;
 
 use crate::any_book::{chain_refused, joined_refused, AnyBook};
 use forest::{every, Forest, Labelled, CELLS};
-use kerb::calls::{ChainAnswer, JoinedAnswer};
-use kerb::{Clock, Settings, CHAIN_PLACES, LOG_PLACES};
+use kerb::calls::{ChainAnswer, Clock, JoinedAnswer};
+use kerb::{Settings, CHAIN_PLACES, LOG_PLACES};
 pub use listing::list;
 
 /// Places of a chunk's half in the counts and in the log, and links of a place.
@@ -86,8 +86,9 @@ impl<const CHECKED: bool> AnyBook for SameMethod<CHECKED> {
                 b: settings.b,
                 time: settings.t0,
                 n: settings.n,
+                pad: [0; 3],
             },
-            mounting: settings.mounting,
+            mounting: settings.mounting.number(),
             counts: [0; 2 * PLACES],
             forward: Forest::fresh(),
             backward: Labelled::fresh(),
@@ -184,7 +185,7 @@ mod tests {
             t0: 0,
             b: 10,
             n: 3,
-            mounting: 1,
+            mounting: kerb::Mounting::Plain,
         };
         let mut book = SameMethod::opened(settings);
         alter(&mut book);

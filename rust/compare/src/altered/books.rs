@@ -4,7 +4,8 @@ use super::ranges::*;
 use crate::fields::settings_of;
 use crate::library;
 use crate::state::State;
-use kerb::{Book, Clock};
+use kerb::calls::{Clock, Fitting};
+use kerb::RawBook;
 use oracle::CELLS;
 use streams::{draw_settings, Dice, Kind, Random, MOST_LOG_PLACES};
 
@@ -42,7 +43,7 @@ pub fn draw(dice: &mut Dice, left: &[State]) -> Altered {
 pub fn left_by_calls(seed: u64) -> Vec<State> {
     let mut left = Vec::new();
     for kind in [Kind::Few, Kind::All, Kind::Touching] {
-        let mut state = State::with_new_log(Book::never_opened());
+        let mut state = State::with_new_log(RawBook::never_opened());
         for (place, call) in Random::new(seed, kind).take(4_000).enumerate() {
             library::ask(&mut state, &call);
             if place % 100 == 99 && state.book.clock.n != 0 {
@@ -78,18 +79,22 @@ fn changed(dice: &mut Dice, left: &[State]) -> Altered {
 fn change(dice: &mut Dice, state: &mut State) {
     let book = &mut state.book;
     let cell = dice.cell() as usize;
-    match dice.below(12) {
+    match dice.below(13) {
         0 => book.forward_parent[cell] = dice.cell() as u16,
         1 => book.forward_size[cell] = any_size(dice),
         2 => book.backward_parent[cell] = dice.cell() as u16,
         3 => book.backward_size[cell] = any_size(dice),
         4 => book.backward_label[cell] = dice.below(16) as u8,
         5 => book.counts[dice.below(32) as usize] = any_count(dice),
-        6 => book.mounting = 3 - book.mounting,
+        6 => book.fitting.mounting = 3 - book.fitting.mounting,
         7 => book.clock.n = dice.between(1, 16) as u8,
         8 => book.clock.b = draw_settings(dice).b,
         9 => book.clock.time = draw_time(dice, settings_of(book)),
         10 => book.clock.t0 = dice.below(u64::from(book.clock.time) + 1) as u32,
+        11 => {
+            book.clock.pad = draw_pad(dice);
+            book.fitting.pad = draw_pad(dice);
+        }
         _ => {
             for _ in 0..dice.between(1, 2_000) {
                 let place = dice.below(MOST_LOG_PLACES as u64) as usize;
@@ -107,7 +112,7 @@ fn in_range(dice: &mut Dice) -> Altered {
     let settings = draw_settings(dice);
     let forward_parent = trees(dice, &cells, steps);
     let backward_parent = trees(dice, &cells, steps);
-    let book = Book {
+    let book = RawBook {
         forward_size: draw_sizes(dice, &forward_parent),
         forward_parent,
         backward_size: draw_sizes(dice, &backward_parent),
@@ -118,9 +123,13 @@ fn in_range(dice: &mut Dice) -> Altered {
             b: settings.b,
             time: draw_time(dice, settings),
             n: settings.n as u8,
+            pad: draw_pad(dice),
         },
         backward_label: draw_labels(dice),
-        mounting: settings.mounting as u8,
+        fitting: Fitting {
+            mounting: settings.mounting as u8,
+            pad: draw_pad(dice),
+        },
     };
     let log = draw_log(dice, &cells);
     Altered {
@@ -178,7 +187,7 @@ fn one_field_outside(dice: &mut Dice) -> Altered {
             book.clock.time = book.clock.t0 - 1;
         }
         2 => book.clock.n = dice.pick(&[0, 17, 255]),
-        3 => book.mounting = dice.pick(&[0, 3, 255]),
+        3 => book.fitting.mounting = dice.pick(&[0, 3, 255]),
         4 => book.counts[dice.below(32) as usize] = dice.pick(&[257, 65_535]),
         5 => book.forward_parent[cell] = dice.pick(&[1024, 65_535]),
         6 => book.forward_size[cell] = dice.pick(&[0, 1025, 65_535]),
@@ -193,16 +202,20 @@ fn one_field_outside(dice: &mut Dice) -> Altered {
 fn any_bytes(dice: &mut Dice) -> Altered {
     let cells = draw_cells(dice);
     let mut any = || dice.bits() as u16;
-    let book = Book {
+    let book = RawBook {
         forward_parent: [0; 1024].map(|_| any()),
         forward_size: [0; 1024].map(|_| any()),
         backward_parent: [0; 1024].map(|_| any()),
         backward_size: [0; 1024].map(|_| any()),
         counts: [0; 32].map(|_| any()),
         backward_label: [0; 1024].map(|_| any() as u8),
-        mounting: any() as u8,
+        fitting: Fitting {
+            mounting: any() as u8,
+            pad: [0; 3].map(|_| any() as u8),
+        },
         clock: Clock {
             n: any() as u8,
+            pad: [0; 3].map(|_| any() as u8),
             t0: dice.bits() as u32,
             b: dice.bits() as u32,
             time: dice.bits() as u32,

@@ -1,7 +1,7 @@
 //! Number 1, as docs/BOOK.md has it: a field outside its range, or a walk without
 //! a cut that would exceed 10 steps.
 
-use kerb::Book;
+use kerb::RawBook;
 use oracle::CELLS;
 
 /// Steps of a walk, at most.
@@ -12,7 +12,7 @@ pub const REASONS: [&str; 14] = [
     "clock.b",
     "clock.time",
     "clock.n",
-    "mounting",
+    "fitting.mounting",
     "counts",
     "forward_parent",
     "forward_size",
@@ -26,18 +26,18 @@ pub const REASONS: [&str; 14] = [
 ];
 
 /// Why a book is not in order: the first of the reasons that there is.
-pub fn disorder(book: &Book) -> Option<&'static str> {
+pub fn disorder(book: &RawBook) -> Option<&'static str> {
     field_outside(book).or_else(|| walk_too_long(book))
 }
 
-fn field_outside(book: &Book) -> Option<&'static str> {
+fn field_outside(book: &RawBook) -> Option<&'static str> {
     let cell = |&parent: &u16| u32::from(parent) < CELLS;
     let size = |&size: &u16| (1..=CELLS).contains(&u32::from(size));
     let in_range = [
         book.clock.b >= 1,
         book.clock.time >= book.clock.t0,
         (1..=16).contains(&book.clock.n),
-        (1..=2).contains(&book.mounting),
+        (1..=2).contains(&book.fitting.mounting),
         book.counts.iter().all(|&count| count <= 256),
         book.forward_parent.iter().all(cell),
         book.forward_size.iter().all(size),
@@ -50,7 +50,7 @@ fn field_outside(book: &Book) -> Option<&'static str> {
 }
 
 /// For parents that are all cells.
-fn walk_too_long(book: &Book) -> Option<&'static str> {
+fn walk_too_long(book: &RawBook) -> Option<&'static str> {
     let forward = longer_than_most(&book.forward_parent);
     let backward = longer_than_most(&book.backward_parent);
     match (forward, backward) {

@@ -77,6 +77,15 @@ pub fn draw_labels(dice: &mut Dice) -> [u8; 1024] {
     [0; 1024].map(|_| dice.between(0, most) as u8)
 }
 
+/// Bytes that have no meaning: 0, as calls leave them, or any.
+pub fn draw_pad(dice: &mut Dice) -> [u8; 3] {
+    if dice.one_in(2) {
+        [0; 3]
+    } else {
+        [0; 3].map(|_| dice.bits() as u8)
+    }
+}
+
 /// A few links in each place, or any number of them.
 pub fn draw_counts(dice: &mut Dice) -> [u16; 32] {
     let few = dice.one_in(2);

@@ -5,7 +5,7 @@
 use super::order::disorder;
 use crate::fields::{book_of, labels_of, log_place, narrow, settings_of, spot, HALF};
 use crate::state::State;
-use kerb::Book;
+use kerb::RawBook;
 use oracle::{
     in_lorrys_numbers, is_cell, number, Chain, Forest, History, Joined, Link, Linked, Refusal,
     Settings, LINKS_PER_SLIDE, LOG_PLACES,
@@ -85,7 +85,7 @@ fn link(state: &mut State, tick: u32, cells: [u32; 2], log_places: usize) -> Res
         Refusal::SlideFull,
     )?;
     move_time(state, tick);
-    let mounting = u32::from(state.book.mounting);
+    let mounting = u32::from(state.book.fitting.mounting);
     store(state, cells.map(|cell| in_lorrys_numbers(cell, mounting)));
     Ok(())
 }
@@ -138,7 +138,7 @@ fn refuse_if(condition: bool, refusal: Refusal) -> Result<(), Refusal> {
     }
 }
 
-fn in_order(book: &Book) -> Result<(), Refusal> {
+fn in_order(book: &RawBook) -> Result<(), Refusal> {
     refuse_if(disorder(book).is_some(), Refusal::NeverOpened)
 }
 
@@ -150,14 +150,14 @@ fn are_cells(cells: [u32; 2]) -> Result<(), Refusal> {
     refuse_if(!cells.iter().all(|&cell| is_cell(cell)), Refusal::Cell)
 }
 
-fn not_before_time(book: &Book, tick: u32) -> Result<(), Refusal> {
+fn not_before_time(book: &RawBook, tick: u32) -> Result<(), Refusal> {
     refuse_if(tick < book.clock.time, Refusal::Tick)
 }
 
 // Slides, chunks and places, by the fields. The book is in order.
 
 /// The chunk and the place of a tick's slide.
-pub fn chunk_and_place(book: &Book, tick: u32) -> (u64, u64) {
+pub fn chunk_and_place(book: &RawBook, tick: u32) -> (u64, u64) {
     let slide = settings_of(book).slide_of(tick);
     let n = u64::from(book.clock.n);
     (slide / n, slide % n)
@@ -165,7 +165,7 @@ pub fn chunk_and_place(book: &Book, tick: u32) -> (u64, u64) {
 
 /// How many links the slide of a tick holds already: what is counted at its
 /// place, where it is of the open chunk; else none.
-pub fn held(book: &Book, tick: u32) -> usize {
+pub fn held(book: &RawBook, tick: u32) -> usize {
     let (open_chunk, _) = chunk_and_place(book, book.clock.time);
     let (chunk, place) = chunk_and_place(book, tick);
     if chunk == open_chunk {
@@ -178,7 +178,7 @@ pub fn held(book: &Book, tick: u32) -> usize {
 // What changes the state.
 
 /// A book with both forests fresh and all counts 0.
-fn empty_book(settings: Settings, time: u32) -> Book {
+fn empty_book(settings: Settings, time: u32) -> RawBook {
     book_of(&History {
         settings,
         time,
@@ -186,14 +186,18 @@ fn empty_book(settings: Settings, time: u32) -> Book {
     })
 }
 
-/// Within the chunk nothing changes but the time.
+/// Within the chunk nothing changes but the time. The pad bytes never do: an
+/// opening alone makes them 0.
 fn move_time(state: &mut State, tick: u32) {
     let (before, _) = chunk_and_place(&state.book, state.book.clock.time);
     let (after, _) = chunk_and_place(&state.book, tick);
     if after == before + 1 {
         turn(state, before);
     } else if after > before {
+        let (of_clock, of_fitting) = (state.book.clock.pad, state.book.fitting.pad);
         state.book = empty_book(settings_of(&state.book), tick);
+        state.book.clock.pad = of_clock;
+        state.book.fitting.pad = of_fitting;
     }
     state.book.clock.time = tick;
 }
@@ -263,7 +267,7 @@ pub fn logged_window(state: &State) -> History {
     history
 }
 
-fn forward_forest(book: &Book) -> Forest {
+fn forward_forest(book: &RawBook) -> Forest {
     Forest {
         parent: book.forward_parent.map(u32::from),
         size: book.forward_size.map(u32::from),
@@ -271,7 +275,7 @@ fn forward_forest(book: &Book) -> Forest {
     }
 }
 
-fn backward_forest(book: &Book) -> Forest {
+fn backward_forest(book: &RawBook) -> Forest {
     Forest {
         parent: book.backward_parent.map(u32::from),
         size: book.backward_size.map(u32::from),

@@ -23,6 +23,7 @@ pub fn tally() -> Tally {
     Tally::of(&[
         ("book", &KINDS),
         ("at first", &["in order", "not in order"]),
+        ("its pad bytes", &["0", "others"]),
         ("number 1 by", &REASONS),
         ("opening, number", &["0", "2", "6"]),
         ("link, number", &["0", "1", "3", "4", "5", "6"]),
@@ -65,6 +66,9 @@ pub fn count_book(tally: &mut Tally, kind: &str, state: &State) {
     let in_order = disorder(&state.book).is_none();
     let order = if in_order { "in order" } else { "not in order" };
     tally.count("at first", order);
+    let pads = [state.book.clock.pad, state.book.fitting.pad];
+    let zero = pads == [[0; 3]; 2];
+    tally.count("its pad bytes", if zero { "0" } else { "others" });
 }
 
 /// Counts a call: the states are those before and after it.

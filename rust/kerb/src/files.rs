@@ -1,0 +1,90 @@
+//! Link files: records of 8 bytes, then settings and trailer. Their cells are in the unit's numbers.
+
+use crate::{calls, Mounting, Refusal, Settings};
+#[cfg(feature = "all-calls")]
+use crate::{UnitCell, RECORD_BYTES};
+#[cfg(feature = "all-calls")]
+use core::fmt;
+
+/// The settings of a link file, and how many records stand at its front.
+pub fn read(file: &[u8]) -> Result<(Settings, u32), Refusal> {
+    let answer = calls::read(file);
+    Refusal::unless_done(answer.number)?;
+    let settings = Settings {
+        t0: answer.settings.t0,
+        b: answer.settings.b,
+        n: answer.settings.n,
+        mounting: Mounting::try_from(answer.settings.mounting)?,
+    };
+    Ok((settings, answer.m))
+}
+
+/// A link file of these settings and record bytes, at the front of the output: 24 bytes more than the records.
+pub fn write(settings: Settings, records: &[u8], out: &mut [u8]) -> Result<(), Refusal> {
+    Refusal::unless_done(calls::write(settings.raw(), records, out))
+}
+
+/// What kerblist prints for a link file, at the front of the output: how many bytes of text.
+pub fn list(file: &[u8], out: &mut [u8]) -> Result<usize, Refusal> {
+    let answer = calls::list(file, out);
+    Refusal::unless_done(answer.number)?;
+    Ok(answer.length)
+}
+
+/// A link as link files have it.
+#[cfg(feature = "all-calls")]
+#[derive(Clone, Copy, Debug, PartialEq, Eq)]
+pub struct Record {
+    pub tick: u32,
+    pub one: UnitCell,
+    pub other: UnitCell,
+}
+
+/// Where playing a file stopped, and why.
+#[cfg(feature = "all-calls")]
+#[derive(Clone, Copy, Debug, PartialEq, Eq)]
+pub struct Stopped {
+    /// How many records were taken before; they stay in the book. Where the link call refused it is the place of that record,
+    /// and where the file itself was refused it is 0.
+    pub taken: u32,
+    pub refusal: Refusal,
+}
+
+#[cfg(feature = "all-calls")]
+impl fmt::Display for Stopped {
+    fn fmt(&self, f: &mut fmt::Formatter) -> fmt::Result {
+        write!(f, "after {} records, {}", self.taken, self.refusal)
+    }
+}
+
+#[cfg(feature = "all-calls")]
+impl core::error::Error for Stopped {}
+
+/// The bytes of one record.
+#[cfg(feature = "all-calls")]
+pub fn pack(tick: u32, one: UnitCell, other: UnitCell) -> [u8; RECORD_BYTES] {
+    let mut bytes = [0; RECORD_BYTES];
+    let number = calls::pack(tick, one.0, other.0, &mut bytes);
+    debug_assert_eq!(number, 0, "8 bytes are enough");
+    bytes
+}
+
+/// Record i, counted from 0, of record bytes or of a link file.
+///
+/// ```
+/// use kerb::{pack, unpack, Record, Refusal, UnitCell};
+///
+/// let bytes = pack(7, UnitCell(2), UnitCell(3));
+/// assert_eq!(unpack(&bytes, 0), Ok(Record { tick: 7, one: UnitCell(2), other: UnitCell(3) }));
+/// assert!(unpack(&bytes, 1).is_err());
+/// ```
+#[cfg(feature = "all-calls")]
+pub fn unpack(records: &[u8], i: u32) -> Result<Record, Refusal> {
+    let answer = calls::unpack(records, i);
+    Refusal::unless_done(answer.number)?;
+    Ok(Record {
+        tick: answer.tick,
+        one: UnitCell(answer.one),
+        other: UnitCell(answer.other),
+    })
+}
