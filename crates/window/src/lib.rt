@@ -14,8 +14,8 @@ ghost use Rattle.window.specs.LinkForest.{grownFrom, highestCut};
 
 // A forest of links: of each cell its parent, and the label of the step to it.
 pub struct LinkForest {
-    pub parent: [u16; 1024],
-    pub label: [u8; 1024],
+    pub parent: [u16; PLACES],
+    pub label: [u8; PLACES],
 }
 
 // Puts the links of the window into three arrays, newest slide first; those of the open slide have the label n. Returns how
