@@ -22,7 +22,6 @@ use Rattle.book_state.specs.Numbers.{logPlaces, areCells}
 use Rattle.book_state.specs.Log.{halfOf, spotOf, startOf, stored}
 use Rattle.book_state.specs.Order.{bookOf, inOrder}
 use Rattle.book_time.specs.Time.{emptied, movedBook}
-use Rattle.book.specs.declared.Answer.{Answer}
 use Rattle.book.specs.declared.fields.FieldsAnswer.{FieldsAnswer}
 
 -- the book and its log together are the state; what a call makes of it, and the number that it gives
@@ -30,6 +29,11 @@ pub record Outcome : Type 0 where
   pub book : Book
   pub log : List ℕ
   pub number : ℕ
+
+-- the book after a call, and the number that it gives
+pub record Answer : Type 0 where
+  pub book : Book
+  pub number : Number
 
 -- an answer and a log are those of an outcome
 pub record Gives (o : Outcome) (answer : Answer) (log : List ℕ) : Type 0 where

@@ -7,29 +7,19 @@ use mathlib.Core.List.{List}
 use native.Mathlib.Omega.{arith}
 use lib.Dec.{leb}
 use lib.ListN.{length, drop, replicate, length-append}
-use Rattle.file.specs.Format.{ending, readNumber, readAnswer, readOf}
+use Rattle.file.specs.Format.{readOf}
 use Rattle.file.specs.declared.Reading.{Reading}
-use Rattle.file.proofs.Laws as linkfile
+use Rattle.settings.specs.declared.Settings.{Settings}
 use Rattle.book_state.specs.declared.Book.{Book}
-use Rattle.book.specs.declared.Answer.{Answer}
 use Rattle.book_state.specs.Order.{neverOpened}
 use Rattle.book_state.specs.Numbers.{logPlaces}
-use Rattle.book.specs.Calls.{Outcome, Gives, openingOf}
+use Rattle.book.specs.Calls.{Outcome, Answer, Gives, openingNumber, openingByNumber, openingOf}
 use Rattle.listing.specs.declared.ListAnswer.{ListAnswer}
-use Rattle.file_play.specs.declared.Played.{Played}
+use Rattle.file_play.specs.declared.PlayAnswer.{PlayAnswer}
 use Rattle.listing.specs.Lines.{refusedFile, refusedRecord}
 use Rattle.file_play.specs.Play.{Play, GivesPlay, playFrom}
 use Rattle.listing.specs.Listing.{GivesListing, bookText, playedText, openedText, readText, listingText, outputPlaces, listedIf, listingOf}
 use Rattle.file_play.proofs.Playing.{Ready, opening-ready, played-ready}
-
--- a file that is taken has its records
-pub read-size : (file : List ℕ) {r : Reading} → r ≡ readOf file → r .number ≡ 0 → 8 * r .m ≤ length file
-unfolding readOf
-read-size file {r} e fine = rw e (go (readNumber file) refl (sym (ap (λ a. a .number) e) ∙ fine))
-  where
-    go : (k : ℕ) → readNumber file ≡ k → readAnswer k (ending file) .number ≡ 0 → 8 * readAnswer k (ending file) .m ≤ length file
-    go zero q n = omega (arith, linkfile.readable file q .long)
-    go (suc k) q n = absurd (omega arith)
 
 -- the length that is given is within the output
 pub listed-within : (file out : List ℕ) {answer : ListAnswer} {out′ : List ℕ} → GivesListing (listingOf file out) answer out′
@@ -52,7 +42,7 @@ unfolding openedText
 refused-opened zero file m o n = absurd (n refl)
 refused-opened (suc k) file m o n = refl
 
-refused-played : (k : ℕ) (p : Play) → ¬ (k ≡ 0) → playedText k p ≡ refusedRecord k (p .place)
+refused-played : (k : ℕ) (p : Play) → ¬ (k ≡ 0) → playedText k p ≡ refusedRecord k (p .taken)
 unfolding playedText
 refused-played zero p n = absurd (n refl)
 refused-played (suc k) p n = refl
@@ -65,26 +55,38 @@ reading-refused file {r} read n = rw (← read) (refused-read (r .number) file r
 
 -- ---- opening
 
--- a file that is taken, and a book that was never opened, over a log of zeros
+-- a file that is taken, and a book that opens over a log of zeros
 pub record Opened (file : List ℕ) (r : Reading) (start : Book) (a : Answer) (log : List ℕ) : Type 0 where
   pub read : r ≡ readOf file
   pub fine : r .number ≡ 0
-  pub never : start ≡ neverOpened
   pub opens : Gives (openingOf start (replicate logPlaces 0) (r .settings)) a log
+
+-- the text is the same, whatever the book was
+alike : (file : List ℕ) (m : ℕ) (b c : Book) (log : List ℕ) (s : Settings)
+    → (let o = openingOf b log s in
+    let p = openingOf c log s in
+    openedText (o .number) file m o ≡ openedText (p .number) file m p)
+unfolding openingOf openingByNumber openedText
+alike file m b c log s = go (openingNumber s log)
+  where
+    go : (k : ℕ)
+        → (let o = openingByNumber k b log s in
+        let p = openingByNumber k c log s in
+        openedText (o .number) file m o ≡ openedText (p .number) file m p)
+    go zero = refl
+    go (suc k) = refl
 
 module _ {file : List ℕ} {r : Reading} {start : Book} {a : Answer} {log : List ℕ} (s : Opened file r start a log) where
   o : Outcome
-  o = openingOf neverOpened (replicate logPlaces 0) (r .settings)
+  o = openingOf start (replicate logPlaces 0) (r .settings)
 
   same-number : o .number ≡ a .number
   unfolding o
-  same-number =
-      ap (λ b. openingOf b (replicate logPlaces 0) (r .settings) .number) (sym (s .never))
-      ∙ sym (ap (λ x. x .number) (s .opens .answered))
+  same-number = sym (ap (λ x. x .number) (s .opens .answered))
 
   is-opened : listingText file ≡ openedText (o .number) file (r .m) o
   unfolding listingText readText o
-  is-opened = rw (← s .read, s .fine)
+  is-opened = rw (← s .read, s .fine) (alike file (r .m) neverOpened start (replicate logPlaces 0) (r .settings))
 
   pub opening-refused : ¬ (a .number ≡ 0) → listingText file ≡ refusedFile (a .number)
   opening-refused n = is-opened ∙ ap (λ k. openedText k file (r .m) o) same-number ∙ refused-opened (a .number) file (r .m) o n
@@ -92,41 +94,41 @@ module _ {file : List ℕ} {r : Reading} {start : Book} {a : Answer} {log : List
 -- ---- playing
 
 -- and the records played into it
-pub record PlayedInto (file : List ℕ) (r : Reading) (start : Book) (a : Answer) (log : List ℕ) (p : Played) (log′ : List ℕ) : Type 0 where
+pub record PlayedInto (file : List ℕ) (r : Reading) (start : Book) (a : Answer) (log : List ℕ) (b : Book) (p : PlayAnswer) (log′ : List ℕ) : Type 0 where
   pub opening : Opened file r start a log
   pub opened : a .number ≡ 0
-  pub plays : GivesPlay (playFrom file 0 (r .m) (a .book) log) p log′
+  pub plays : GivesPlay (playFrom file 0 (r .m) (a .book) log) b p log′
 
-module _ {file : List ℕ} {r : Reading} {start : Book} {a : Answer} {log : List ℕ} {p : Played} {log′ : List ℕ}
-    (s : PlayedInto file r start a log p log′) where
+module _ {file : List ℕ} {r : Reading} {start : Book} {a : Answer} {log : List ℕ} {b : Book} {p : PlayAnswer} {log′ : List ℕ}
+    (s : PlayedInto file r start a log b p log′) where
   played : Play
   played = playFrom file 0 (r .m) (o (s .opening) .book) (o (s .opening) .log)
 
   -- the outcome's book and log are those that are played into
   same-play : playFrom file 0 (r .m) (a .book) log ≡ played
   unfolding o played
-  same-play = rw (s .opening .opens .answered, s .opening .opens .logged, s .opening .never)
+  same-play = rw (s .opening .opens .answered, s .opening .opens .logged)
 
   number-of : played .number ≡ p .number
-  number-of = sym (ap (λ x. x .number) same-play) ∙ sym (ap (λ x. x .number) (s .plays .played))
+  number-of = sym (ap (λ x. x .number) same-play) ∙ sym (ap (λ x. x .number) (s .plays .answered))
 
   is-played : listingText file ≡ playedText (played .number) played
   unfolding openedText o played
   is-played = is-opened (s .opening) ∙ rw (same-number (s .opening) ∙ s .opened)
 
-  pub record-refused : ¬ (p .number ≡ 0) → listingText file ≡ refusedRecord (p .number) (p .place)
+  pub record-refused : ¬ (p .number ≡ 0) → listingText file ≡ refusedRecord (p .number) (p .taken)
   record-refused n =
       is-played ∙ ap (λ k. playedText k played) number-of ∙ refused-played (p .number) played n
-      ∙ ap (refusedRecord (p .number)) (sym (ap (λ x. x .place) same-play) ∙ sym (ap (λ x. x .place) (s .plays .played)))
+      ∙ ap (refusedRecord (p .number)) (sym (ap (λ x. x .taken) same-play) ∙ sym (ap (λ x. x .taken) (s .plays .answered)))
 
-  pub book-listed : p .number ≡ 0 → listingText file ≡ bookText (p .book) log′
+  pub book-listed : p .number ≡ 0 → listingText file ≡ bookText b log′
   unfolding playedText
-  book-listed n = is-played ∙ rw (number-of ∙ n, ← same-play, s .plays .played, s .plays .logged)
+  book-listed n = is-played ∙ rw (number-of ∙ n, ← same-play, s .plays .kept, s .plays .logged)
 
-  pub book-ready : p .number ≡ 0 → Ready (p .book) log′
+  pub book-ready : p .number ≡ 0 → Ready b log′
   book-ready n =
       let opens = s .opening .opens in
       let opened = sym (ap (λ x. x .number) (opens .answered)) ∙ s .opened in
       let before : Ready (a .book) log = rw (opens .answered, opens .logged) (opening-ready start _ (r .settings) opened) in
-      let ended = sym (ap (λ x. x .number) (s .plays .played)) ∙ n in
-      rw (s .plays .played, s .plays .logged) (played-ready file 0 (r .m) (a .book) log before ended)
+      let ended = sym (ap (λ x. x .number) (s .plays .answered)) ∙ n in
+      rw (s .plays .kept, s .plays .logged) (played-ready file 0 (r .m) (a .book) log before ended)

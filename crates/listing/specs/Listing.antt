@@ -6,7 +6,7 @@ use mathlib.Core.List.{[], _∷_, _++_}
 use lib.Dec.{leb}
 use lib.ListN.{length, replicate}
 use Rattle.numbers.specs.Front.{atFront}
-use Rattle.numbers.specs.Kinds.{Bytes, Log, Number}
+use Rattle.numbers.specs.Kinds.{Bytes, Counts, Log, Number}
 use Rattle.slides.specs.Clock.{openSlide}
 use Rattle.slides.specs.declared.Clock.{Clock}
 use Rattle.file.specs.Format.{readOf}
@@ -26,16 +26,19 @@ abbrev pub windowLine : (clock : Clock) (mounting : ℕ) → Bytes
 windowLine clock mounting = line windowWord (clock .n ∷ clock .b ∷ mounting ∷ openSlide clock ∷ [])
 
 -- that line; the groups; links stored in the window, repeats counted
-unfoldable pub bookText : (book : Book) (log : Log) → Bytes
-bookText b log =
-    windowLine (b .clock) (b .fitting .mounting)
-    ++ groupLines (b .clock .n) (windowLinks (b .clock) (b .counts) log)
-    ++ line linksWord (length (windowLinks (b .clock) (b .counts) log) ∷ [])
+unfoldable pub windowText : (clock : Clock) (mounting : ℕ) (counts : Counts) (log : Log) → Bytes
+windowText clock mounting counts log =
+    windowLine clock mounting
+    ++ groupLines (clock .n) (windowLinks clock counts log)
+    ++ line linksWord (length (windowLinks clock counts log) ∷ [])
+
+abbrev pub bookText : (book : Book) (log : Log) → Bytes
+bookText b log = windowText (b .clock) (b .fitting .mounting) (b .counts) log
 
 -- by the number of the first record that is refused
 unfoldable pub playedText : (number : Number) (play : Play) → Bytes
 playedText zero p = bookText (p .book) (p .log)
-playedText (suc k) p = refusedRecord (suc k) (p .place)
+playedText (suc k) p = refusedRecord (suc k) (p .taken)
 
 -- by the opening's number
 unfoldable pub openedText : (number : Number) (file : Bytes) (m : ℕ) (outcome : Outcome) → Bytes

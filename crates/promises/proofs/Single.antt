@@ -7,10 +7,10 @@ use mathlib.Core.List.{List, []}
 use Rattle.cells.specs.declared.Fitting.{Fitting}
 use Rattle.buckets.proofs.Listing.{one-listing}
 use Rattle.forest_cross.proofs.Joined.{one-answer}
-use Rattle.book.specs.declared.Answer.{Answer}
-use Rattle.book.specs.Calls.{Outcome, Gives}
+use Rattle.book.specs.Calls.{Outcome, Answer, Gives}
+use Rattle.file_play.specs.Play.{Play}
 use Rattle.text.specs.Output.{WrittenAt}
-use Rattle.promises.specs.Single.{AtMostOne, FieldsGive, Single}
+use Rattle.promises.specs.Single.{AtMostOne, FieldsGive, PlayGives, Single}
 
 -- two that equal a third
 equal : {A : Type 0} {x : A} → AtMostOne (λ r. r ≡ x)
@@ -35,6 +35,19 @@ fields-give o r s p q = λ i.
       b .«backward_size»,
       b .«backward_label»,
       equal (r .7) (s .7) (p .logged) (q .logged) i,
+    ))
+
+play-gives : (p : Play) → AtMostOne (PlayGives p)
+play-gives p r s f g = λ i.
+    (let b = equal _ _ (f .kept) (g .kept) i in (
+      record { clock = b .clock; fitting = b .fitting; answer = equal (r .0 .answer) (s .0 .answer) (f .answered) (g .answered) i },
+      b .counts,
+      b .«forward_parent»,
+      b .«forward_size»,
+      b .«backward_parent»,
+      b .«backward_size»,
+      b .«backward_label»,
+      equal (r .7) (s .7) (f .logged) (g .logged) i,
     ))
 
 written : {text out : List ℕ} {at : ℕ} → AtMostOne {A = ℕ × List ℕ} (λ r. WrittenAt text at out (r .0) (r .1))
@@ -80,7 +93,7 @@ single =
       write = λ s records out. both;
       half-word = λ bytes place. equal;
       word = λ bytes place. equal;
-      play = λ file m b log r s p q. both r s (p .played, p .logged) (q .played, q .logged);
+      play-fields = λ file m b log. play-gives _;
       of-window = λ clock counts log. equal;
       put-word = λ word out at. written;
       put-fields = λ word numbers out at. written;

@@ -80,9 +80,9 @@ pub record Refused (p : Implementation) : Type 0 where
 -- are as they left them, and the number is the link call's (RULES 6.6, 6.7)
 pub record Stopped (file : List ℕ) (i : ℕ) (b : Book) (log : List ℕ) (p : Play) : Type 0 where
   pub before : ℕ
-  pub place : p .place ≡ i + before
-  pub kept : playFrom file i before b log ≡ record { book = p .book; log = p .log; number = 0; place = 0 }
-  pub number : recordGives file (p .place) (p .book) (p .log) .number ≡ p .number
+  pub place : p .taken ≡ i + before
+  pub kept : playFrom file i before b log ≡ record { book = p .book; log = p .log; number = 0; taken = p .taken }
+  pub number : recordGives file (p .taken) (p .book) (p .log) .number ≡ p .number
 
 -- 1, for files: a refusal leaves the other result fields 0 and lent buffers as they were (RULES 7.4); a record that is refused
 -- changes nothing (RULES 6.7)

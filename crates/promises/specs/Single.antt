@@ -18,15 +18,14 @@ use Rattle.buckets.specs.Listed as lists
 use Rattle.forest_cross.specs.Across.{JoinedAcross}
 use Rattle.file.specs.Format.{readOf, writeNumber, outputOf}
 use Rattle.file.specs.Layout.{halfAt, wordAt}
-use Rattle.file_play.specs.declared.Played.{Played}
-use Rattle.file_play.specs.Play.{GivesPlay, playFrom}
+use Rattle.file_play.specs.declared.PlayedFields.{PlayedFields}
+use Rattle.file_play.specs.Play.{Play, GivesPlayFields, playFrom}
 use Rattle.window_groups.specs.Groups.{groupsOf}
 use Rattle.text.specs.Output.{WrittenAt}
 use Rattle.text.specs.Text.{fields, line}
 use Rattle.listing.specs.declared.ListAnswer.{ListAnswer}
 use Rattle.listing.specs.Listing.{GivesListing, listingOf}
 use Rattle.book_state.specs.declared.Book.{Book}
-use Rattle.book.specs.declared.Answer.{Answer}
 use Rattle.book.specs.declared.fields.FieldsAnswer.{FieldsAnswer}
 use Rattle.book_state.specs.Log.{halfOf, spotOf, storedIn}
 use Rattle.book_state.specs.Order.{neverOpened, bookOf, inOrderOf}
@@ -35,7 +34,7 @@ use Rattle.window.specs.Gathered.{LinksPut, arrayLinks}
 use Rattle.window.specs.LinkForest.{grownFrom, highestCut}
 use Rattle.book_time.specs.Time.{Fresh, movedBook}
 use Rattle.book_joined.specs.Joined.{joinedOf}
-use Rattle.book.specs.Calls.{Outcome, Gives, GivesFields, openingOf, linkOf, clockOf}
+use Rattle.book.specs.Calls.{Outcome, Answer, Gives, GivesFields, openingOf, linkOf, clockOf}
 use Rattle.graph.specs.Trail.{trailOf}
 use Rattle.chain_fewest.specs.Lists.{linksOf}
 use Rattle.chain_fewest.specs.Best.{TrailGiven}
@@ -54,6 +53,13 @@ FieldsResult = FieldsAnswer × List ℕ × List ℕ × List ℕ × List ℕ × L
 abbrev pub FieldsGive : Outcome → FieldsResult → Type 0
 FieldsGive o r = GivesFields o (r .0) (r .1) (r .2) (r .3) (r .4) (r .5) (r .6) (r .7)
 
+-- the same of playing
+abbrev pub PlayedResult : Type 0
+PlayedResult = PlayedFields × List ℕ × List ℕ × List ℕ × List ℕ × List ℕ × List ℕ × List ℕ
+
+abbrev pub PlayGives : Play → PlayedResult → Type 0
+PlayGives p r = GivesPlayFields p (r .0) (r .1) (r .2) (r .3) (r .4) (r .5) (r .6) (r .7)
+
 pub record Single : Type 0 where
   -- book_state
   pub never-opened : AtMostOne (λ r. r ≡ neverOpened)
@@ -66,11 +72,12 @@ pub record Single : Type 0 where
   pub move-to : (clock : Clock) (counts fp fs bp bs bl log : List ℕ) (tick : ℕ) →
       AtMostOne {A = Clock × List ℕ × List ℕ × List ℕ × List ℕ × List ℕ × List ℕ}
       (λ r. (fitting : Fitting) → bookOf (r .0) fitting (r .1) (r .2) (r .3) (r .4) (r .5) (r .6) ≡ movedBook (bookOf clock fitting counts fp fs bp bs bl) log tick)
-  -- book
+  -- kerb, over a book
   pub opening : (b : Book) (log : List ℕ) (s : Settings) → AtMostOne {A = Answer × List ℕ} (λ r. Gives (openingOf b log s) (r .0) (r .1))
   pub link : (b : Book) (log : List ℕ) (tick one other : ℕ) →
       AtMostOne {A = Answer × List ℕ} (λ r. Gives (linkOf b log tick one other) (r .0) (r .1))
   pub clock : (b : Book) (log : List ℕ) (tick : ℕ) → AtMostOne (λ r. Gives (clockOf b log tick) r log)
+  -- book, over lent fields
   pub fields-opening : (b : Book) (log : List ℕ) (s : Settings) → AtMostOne (FieldsGive (openingOf b log s))
   pub fields-link : (b : Book) (log : List ℕ) (tick one other : ℕ) → AtMostOne (FieldsGive (linkOf b log tick one other))
   pub fields-clock : (b : Book) (log : List ℕ) (tick : ℕ) → AtMostOne (FieldsGive (clockOf b log tick))
@@ -94,8 +101,7 @@ pub record Single : Type 0 where
   pub half-word : (bytes : List ℕ) (place : ℕ) → AtMostOne (λ r. r ≡ halfAt bytes place)
   pub word : (bytes : List ℕ) (place : ℕ) → AtMostOne (λ r. r ≡ wordAt bytes place)
   -- file_play
-  pub play : (file : List ℕ) (m : ℕ) (b : Book) (log : List ℕ) →
-      AtMostOne {A = Played × List ℕ} (λ r. GivesPlay (playFrom file 0 m b log) (r .0) (r .1))
+  pub play-fields : (file : List ℕ) (m : ℕ) (b : Book) (log : List ℕ) → AtMostOne (PlayGives (playFrom file 0 m b log))
   -- window_groups
   pub of-window : (clock : Clock) (counts log : List ℕ) → AtMostOne (λ r. r ≡ groupsOf clock counts log)
   -- text

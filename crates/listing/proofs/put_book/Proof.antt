@@ -3,7 +3,7 @@ use Prim.Native.Nat.{_≤_}
 use native.Mathlib.Omega.{arith}
 use borrow.Author.Needs.{needs}
 use Rattle.window.proofs.WindowLinks.{window-few}
-use Rattle.listing.specs.Listing.{bookText}
+use Rattle.listing.specs.Listing.{windowText}
 use Rattle.listing.proofs.Lines.{groups-small, groups-lines, groups-links}
 use Rattle.listing.proofs.Printed.{links-line-short}
 use Rattle.text.proofs.Writing.{written-then}
@@ -18,10 +18,10 @@ of-window-requires c κs = search needs
 
 -- the window's line, and the function's entry, from where the groups are known
 abbrev line-of : tie.After-of-window → tie.After-put-window
-line-of c = c .before .before .before .before .before .before
+line-of c = c .before .before .before
 
 abbrev start : tie.After-of-window → tie.Start
-start c = line-of c .before .before .before .before .before
+start c = line-of c .before .before .before .before
 
 put-groups-requires : tie.Need-put-groups-requires
 put-groups-requires c κs =
@@ -55,7 +55,7 @@ same-length : tie.Need-same-length
 same-length c = search needs
 
 returns : tie.Need-returns
-unfolding bookText
+unfolding windowText
 returns c =
     let told = c .before .before .before .before .before .before .before .before .before .before .before .before .before .before in
     let window = line-of told .put-window .ensures .0 in
