@@ -100,7 +100,7 @@ module _ {M : Type 1} (𝓤 : URA M) (H : Heap 𝓤) (A : Atoms 𝓤) (W : Given
   args = (h .clock, tt)
 
   abbrev to-callee : Callee 𝓤 H A at-mem run .Ghost
-  to-callee = ((tt, tt, tt, args , ((LL.val T1.the-type T1′.the-laws (h .clock)) ∷ [], tt)), tt)
+  to-callee = ((tt, tt, tt, args, ((LL.val T1.the-type T1′.the-laws (h .clock)) ∷ [], tt)), tt)
 
   goes-callee : (is-clock : Is T1.the-row (h .clock) ((LL.val T1.the-type T1′.the-laws (h .clock)) ∷ [])) → ent 𝓤 (sem 𝓤 H A (ftrue)) (Callee 𝓤 H A at-mem run .pre (to-callee))
   goes-callee is-clock =
