@@ -1,5 +1,4 @@
 // The joined call: four walks, always all four; and where neither forest alone decides, the crossing.
-use book_state::Book;
 use book_state::CELLS;
 use book_state::STEP_LIMIT;
 use book_state::order;
@@ -29,25 +28,8 @@ pub struct JoinedAnswer {
     pub steps: u8,
 }
 
-// Whether the window's links join the two cells, and the steps of the walks.
-pub fn joined(book: Book, one: u16, other: u16) -> JoinedAnswer
-    ensures { λ r. ⌜ r ≡ joinedOf book one other ⌝ }
-{
-    over_fields(
-        book.clock,
-        book.fitting,
-        &book.counts,
-        &book.forward_parent,
-        &book.forward_size,
-        &book.backward_parent,
-        &book.backward_size,
-        &book.backward_label,
-        one,
-        other,
-    )
-}
-
-// The same over the fields of a book, each lent where it stands: no copy of the book is made.
+// Whether the window's links join the two cells, and the steps of the walks, over the fields of a book, each lent where it
+// stands: no copy of the book is made.
 pub fn over_fields<'a>(
     clock: Clock,
     fitting: Fitting,
