@@ -309,7 +309,7 @@ KERB_LOOK_AT struct kerb_chain_answer kerb_chain(const struct kerb_book *book, c
  * has, and its least hold, for how many further closings any two of them stay joined. Cell c in the lorry's numbers. A cell that
  * no link holds to another is alone: its own number, 1, and n, read as "always". Each length is that of its array in places, at
  * least KERB_CELLS; later places keep what they had.
- * Refuses, in this order: 1, 6 (the log or an array). Stack: 74 KB.
+ * Refuses, in this order: 1, 6 (the log or an array). Stack: not measured yet.
  */
 KERB_LOOK_AT struct kerb_groups_answer kerb_groups(const struct kerb_book *book, const uint16_t *log, size_t log_places,
                                                    uint16_t *first, size_t first_places, uint16_t *size, size_t size_places,
@@ -358,7 +358,8 @@ KERB_LOOK_AT uint8_t kerb_write(struct kerb_settings settings, const uint8_t *re
  * The records of a link file into a book, one after the other, each by the link call. Does not open the book: who plays a file
  * opens one first, with the settings that kerb_read gives. Stops at the first record that is refused: `taken` is then its
  * place from 0, and THE RECORDS BEFORE IT STAY in the book.
- * Refuses, in this order: 9, 10, 11, 12, 2 as kerb_read, with nothing played; then for each record 1, 6, 3, 4, 5. Stack: 32 KB.
+ * Refuses, in this order: 9, 10, 11, 12, 2 as kerb_read, with nothing played; then for each record 1, 6, 3, 4, 5.
+ * Stack: not measured yet.
  */
 KERB_LOOK_AT struct kerb_play_answer kerb_play(struct kerb_book *book, uint16_t *log, size_t log_places, const uint8_t *file,
                                                size_t file_bytes);

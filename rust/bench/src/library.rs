@@ -5,7 +5,7 @@ use crate::any_book::{chain_refused, joined_refused, AnyBook};
 use kerb::calls::{ChainAnswer, JoinedAnswer};
 use kerb::{Book, LorryCell, Refusal, Settings, UnitCell};
 
-pub struct Library(Book);
+pub struct Library(pub Book);
 
 fn number(done: Result<(), Refusal>) -> u8 {
     done.map_or_else(Refusal::number, |()| 0)

@@ -68,7 +68,7 @@ impl Script {
 
     /// Links over so many slides, as evenly as can be, not timed.
     pub fn spread(&mut self, first_slide: u32, slides: u32, links: &[Pair]) {
-        let share = (links.len() + slides as usize - 1) / slides as usize;
+        let share = links.len().div_ceil(slides as usize);
         for (slide, some) in (first_slide..).zip(links.chunks(share)) {
             self.slide(slide, some.to_vec(), false);
         }
@@ -78,7 +78,7 @@ impl Script {
     pub fn ask(&mut self, pairs: Vec<Pair>) {
         let chained = |&(one, other): &Pair| {
             let answer = self.book.joined(u32::from(one), u32::from(other));
-            one != other && answer.map_or(false, |answer| answer.joined)
+            one != other && answer.is_ok_and(|answer| answer.joined)
         };
         let mut chains: Vec<Pair> = pairs.iter().copied().filter(chained).take(CHAINS).collect();
         if chains.is_empty() {

@@ -62,6 +62,21 @@ fn questions(stacks: &mut Vec<Stack>) {
         black_box(library.chain(one, other, &mut lent));
     });
     stacks.push(("chain of 1,023 links", chain));
+    #[cfg(feature = "all-calls")]
+    stacks.push(("groups", groups(&played(&dense(16, 256)).0)));
+}
+
+#[cfg(feature = "all-calls")]
+fn groups(library: &Library) -> usize {
+    let (mut first, mut size) = (vec![0; kerb::CELLS], vec![0; kerb::CELLS]);
+    let mut hold = vec![0; kerb::CELLS];
+    used(|| {
+        let groups = library
+            .0
+            .raw()
+            .groups(library.0.log(), &mut first, &mut size, &mut hold);
+        black_box(groups.expect("a good book"));
+    })
 }
 
 fn joined(library: &mut Library, one: u16, other: u16) -> usize {
@@ -106,4 +121,18 @@ fn files(stacks: &mut Vec<Stack>) {
         kerb::list(&file, &mut text).expect("a long enough output");
     });
     stacks.push(("list, 8,000 records", listing));
+    #[cfg(feature = "all-calls")]
+    {
+        let mut book = kerb::Book::open(settings).expect("good settings");
+        let playing = used(|| {
+            book.play(&file).expect("a good file");
+        });
+        stacks.push(("play, 8,000 records", playing));
+        let cells = used(|| {
+            black_box(kerb::pack(black_box(1), UnitCell(2), UnitCell(3)));
+            black_box(kerb::unpack(&file, black_box(7)).expect("a record"));
+            black_box((book.open_slide(), book.slide_ticks(black_box(2))));
+        });
+        stacks.push(("pack, unpack, open slide, slide ticks", cells));
+    }
 }

@@ -80,7 +80,7 @@ impl Window {
         while self
             .links
             .front()
-            .map_or(false, |link| link.slide + self.n() <= open)
+            .is_some_and(|link| link.slide + self.n() <= open)
         {
             self.links.pop_front();
         }

@@ -39,6 +39,11 @@ impl Lockstep {
         self.oracle.history.as_ref()
     }
 
+    /// The library's book and log.
+    pub fn library(&self) -> &State {
+        &self.library
+    }
+
     /// Puts a call to both. The whole answers have to be equal, the lent buffers
     /// too. Of the state, a refusal and a question change nothing; a call that is
     /// done leaves the book that [`book_of`] builds, and in the log writes a link

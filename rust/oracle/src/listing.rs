@@ -47,7 +47,7 @@ impl History {
     }
 
     /// The groups of two or more cells, by smallest cell.
-    fn groups(&self) -> Vec<CellSet> {
+    pub fn groups(&self) -> Vec<CellSet> {
         let linked = Linked::by(self.window());
         let mut listed = CellSet::EMPTY;
         let mut groups = Vec::new();
@@ -68,7 +68,7 @@ impl History {
     /// two cells are also there for every smaller L. So every pair has its own
     /// L at or above a given one exactly when links from that one on chain the
     /// whole group; the largest such is the least L over the pairs.
-    fn least_hold(&self, group: &CellSet) -> u32 {
+    pub fn least_hold(&self, group: &CellSet) -> u32 {
         let cell = smallest(group);
         let whole = |linked: &Linked| linked.group_of(cell) == *group;
         let (l, _) = self

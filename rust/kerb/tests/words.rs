@@ -1,0 +1,80 @@
+//! The words of a refusal are those of include/kerb.h: what examples/numbers.c prints.
+
+use kerb::{calls, Refusal};
+
+#[test]
+fn refusals_say_what_the_header_says() {
+    let printed = include_str!("../../../examples/numbers.stdout");
+    for refusal in [
+        Refusal::NoBook,
+        Refusal::Settings,
+        Refusal::NoCell,
+        Refusal::Early,
+        Refusal::Full,
+        Refusal::Short,
+        Refusal::NoTrail,
+        Refusal::LongTrail,
+        Refusal::Length,
+        Refusal::Letters,
+        Refusal::Offset,
+        Refusal::Pad,
+    ] {
+        let line = format!("{refusal}");
+        assert!(printed.lines().any(|of| of == line), "{line}");
+    }
+}
+
+/// A book that was stored as bytes comes back as it was.
+#[test]
+fn a_stored_book_comes_back() {
+    let settings = kerb::Settings {
+        t0: 5,
+        b: 10,
+        n: 3,
+        mounting: kerb::Mounting::Mirrored,
+    };
+    let mut book = kerb::Book::open(settings).unwrap();
+    book.link(17, kerb::UnitCell(1), kerb::UnitCell(2)).unwrap();
+    let (bytes, log) = (*book.raw().as_bytes(), book.log().to_vec());
+
+    let back = kerb::Book::stored(kerb::RawBook::from_bytes(&bytes), log.clone()).unwrap();
+    assert_eq!(back, book);
+
+    let short = log[1..].to_vec();
+    let raw = kerb::RawBook::from_bytes(&bytes);
+    assert_eq!(kerb::Book::stored(raw, short), Err(Refusal::Short));
+
+    let mut flipped = bytes;
+    flipped[1] ^= 0x80;
+    let raw = kerb::RawBook::from_bytes(&flipped);
+    assert_eq!(kerb::Book::stored(raw, log), Err(Refusal::NoBook));
+    assert_eq!(
+        calls::joined(&kerb::RawBook::from_bytes(&flipped), 0, 0).number,
+        1
+    );
+}
+
+/// An opening writes every byte, whatever the memory held, and the pad bytes are 0.
+#[test]
+fn an_opening_leaves_no_byte_of_what_was_there() {
+    let settings = kerb::Settings {
+        t0: 7,
+        b: 100,
+        n: 16,
+        mounting: kerb::Mounting::Plain,
+    };
+    let opened = |garbage: u8| {
+        let mut book = kerb::RawBook::from_bytes(&[garbage; kerb::RawBook::BYTES]);
+        let mut log = vec![u16::from(garbage); kerb::LOG_PLACES];
+        book.opening(&mut log, settings).unwrap();
+        (book, log)
+    };
+    let (book, log) = opened(0xA5);
+    assert_eq!(opened(0x5A).0.as_bytes(), book.as_bytes());
+    assert_eq!(opened(0x5A).1, log);
+    assert_eq!((book.clock.pad, book.fitting.pad), ([0; 3], [0; 3]));
+    assert_eq!(
+        kerb::RawBook::never_opened().as_bytes(),
+        &[0; kerb::RawBook::BYTES]
+    );
+}
