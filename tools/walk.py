@@ -474,6 +474,8 @@ Callee 𝓤 H A mem run = tripleOf 𝓤 H A g.signature (g.spec 𝓤 H A mem run
     for p in slices:
         x = dash(p[1])
         gi += [(f'own-{p[1]}', f"{'MutSlice' if p[1] in gave else 'ShrSlice'} (named 0) κ-{x} {p[2]} .own ref-{x} ({pval(p)} ∷ [])")]
+    if not gi:  # nothing is lent
+        gi = [('none', 'ftrue')]
     mean = f'sem 𝓤 H A ({gi[-1][1]})'
     for _, t in reversed(gi[:-1]):
         mean = f'sep 𝓤 (sem 𝓤 H A ({t})) ({mean})'
@@ -498,11 +500,16 @@ Callee 𝓤 H A mem run = tripleOf 𝓤 H A g.signature (g.spec 𝓤 H A mem run
         c.move(t, 'al')
         c.emit('join ! $')
         c.take(2, 'al')
+    if gi[0][0] == 'none':
+        c.move('none')
+        c.emit('drop ! $')
+        c.take(1)
     c.move('al', 'own')
     c.emit('join ! $ frame ! $ done !')
     isT = ''.join(f"(is-{dash(f)} : Is {plain(ty[f]).row} (h {fld(f)}) ({plain(ty[f]).val('h ' + fld(f))} ∷ [])) " for f in loads)
     isV = ' '.join(f'is-{dash(f)}' for f in loads)
-    put(f"  goes-callee : {isT}({' '.join(νs)} : ℕ) ({' '.join(ds)} : GName) → ent 𝓤 ({mean}) (Callee 𝓤 H A at-mem run .pre {TO})\n"
+    binders = (f"({' '.join(νs)} : ℕ) " if νs else '') + (f"({' '.join(ds)} : GName) " if ds else '')
+    put(f"  goes-callee : {isT}{binders}→ ent 𝓤 ({mean}) (Callee 𝓤 H A at-mem run .pre {TO})\n"
         f"  goes-callee {isV} {' '.join(νs)} {' '.join(ds)} =\n      qed W ({''.join(f'‵ ({t}) ∷ ' for _, t in gi)}[]) ∵ {c.line()}\n")
     # ---- the walk
     pv = 'vptr b o ∷ ' + ''.join(pval(p) + ' ∷ ' for p in params) + '[]'
@@ -615,6 +622,9 @@ Callee 𝓤 H A mem run = tripleOf 𝓤 H A g.signature (g.spec 𝓤 H A mem run
             c.emit(f'use1 W ({own} ⊛ {own}) (shr-slice-copy 𝓤 H A W (named 0) κ-{x} {p[2]} .twice ref-{x} ({pval(p)} ∷ [])) $ split ! $')
             c.take(1, f'own-{p[1]}', f'keep-{p[1]}')
     J = gi[-1][0]
+    if J == 'none':
+        c.emit('nothing ! $')
+        c.l = ['none'] + c.l
     for k, _ in reversed(gi[:-1]):
         c.move(k, J)
         c.emit('join ! $')
@@ -822,7 +832,7 @@ unfolding code.routine tablesOf
     ({fn}-meets 𝓤 H (𝓖 .A) (givenOf 𝓤 H 𝓜 𝓖) (𝓜 .mem) (𝓡 .run) (tablesOf 𝓤 H 𝓜 (tables 𝓤 H 𝓜 𝓡 code.env))
     (cited 𝓤 H (Callee 𝓤 H (𝓖 .A) (𝓜 .mem) (𝓡 .run)) 𝓜 𝓡 code.env {key} g-def.routine code.{calls} (g-thm.met 𝓤 H 𝓜 𝓖 𝓡)))""")
     lines = '\n'.join(o).split('\n')  # as `rt fmt` lays it out: no two spaces in a row, none before a bracket
-    return '\n'.join(re.sub(r' +\)', ')', re.sub(r'(?<=\S) {2,}', ' ', x)).rstrip() for x in lines) + '\n'
+    return '\n'.join(re.sub(r' +([),])', r'\1', re.sub(r'(?<=\S) {2,}', ' ', x)).rstrip() for x in lines) + '\n'
 
 
 # ---- this project's structs, and the functions over a book
@@ -845,6 +855,9 @@ ONE = [('fields', ARRAYS)]  # one lifetime for all (<'a>)
 ZS = ' '.join(f'z-{dash(f)}' for f in ARRAYS)
 
 SPECS = {
+    'kerb_open_slide': dict(
+        crate='kerb', fn='kerb_open_slide', struct=BOOK, ref='shr', callee=('slides', 'open_slide'), params=[], args=[('load', 'clock')], lifetimes=[], answer='u64',
+        uses=['use Rattle.slides.specs.Clock.{openSlide}'], ensured='r ≡ openSlide (h .clock)', says='e'),
     'kerb_link': dict(
         crate='kerb', fn='kerb_link', struct=BOOK, ref='mut', callee=('book', 'fields.link'),
         params=[('slice-mut', 'log', 'u16'), ('num', 'tick', 'u32'), ('num', 'one', 'u16'), ('num', 'other', 'u16')],

@@ -5,18 +5,22 @@
 use book::fields;
 use book_joined::JoinedAnswer;
 use book_state::Book;
+use cells::Fitting;
 use chain::ChainAnswer;
 use file::Reading;
 use listing::ListAnswer;
 use settings::Settings;
 ghost use mathlib.Core.Path.{_≡_};
-ghost use lib.ListN.{length};
+ghost use lib.ListN.{length, replicate};
+ghost use Rattle.cells.specs.Cell.{sectors, ringOf, sectorOf, lorryCell, unitCell};
+ghost use Rattle.slides.specs.Clock.{openSlide};
 ghost use Rattle.book_state.specs.Order.{neverOpened};
 ghost use Rattle.book_joined.specs.Joined.{joinedOf};
 ghost use Rattle.book.specs.Calls.{Gives, openingOf, linkOf, clockOf};
 ghost use Rattle.chain.specs.Chain.{chainOf, GivesChain};
 ghost use Rattle.file.specs.Format.{readOf, writeNumber, outputOf};
 ghost use Rattle.listing.specs.Listing.{listingOf, GivesListing};
+ghost use Rattle.kerb.specs.Interface.{version, bookSize};
 
 // A book that was never opened: every call but opening gives 1 for it.
 #[no_mangle]
@@ -113,6 +117,14 @@ pub extern "C" fn kerb_joined(book: &Book, one: u16, other: u16) -> JoinedAnswer
     )
 }
 
+// The slide of the book's time; 0 for a book that was never opened (RULES 2.15).
+#[no_mangle]
+pub extern "C" fn kerb_open_slide(book: &Book) -> u64
+    ensures { λ r. ⌜ r ≡ openSlide (now (book .entry) .clock) ⌝ }
+{
+    slides::open_slide(book.clock)
+}
+
 // The chain goes to the front of the buffer.
 #[no_mangle]
 pub extern "C" fn kerb_chain(
@@ -163,4 +175,57 @@ pub extern "C" fn kerb_list(file: &[u8], out: &mut [u8]) -> ListAnswer
     ensures { λ r. ⌜ GivesListing (listingOf (now (file .entry)) (now (out .entry))) r (now (out .exit)) ⌝ }
 {
     listing::list(file, out)
+}
+
+// The lorry's number of a unit's cell, by the mounting, and the way back (RULES 1.3 to 1.7).
+#[no_mangle]
+pub extern "C" fn kerb_lorry_cell(mounting: u8, cell: u16) -> u16
+    ensures { λ r. ⌜ r ≡ lorryCell (record { mounting = mounting; pad = replicate 3 0 }) cell ⌝ }
+{
+    let fitting = Fitting {
+        mounting,
+        pad: [0; 3],
+    };
+    cells::lorry_cell(fitting, cell)
+}
+
+#[no_mangle]
+pub extern "C" fn kerb_unit_cell(mounting: u8, cell: u16) -> u16
+    ensures { λ r. ⌜ r ≡ unitCell (record { mounting = mounting; pad = replicate 3 0 }) cell ⌝ }
+{
+    let fitting = Fitting {
+        mounting,
+        pad: [0; 3],
+    };
+    cells::unit_cell(fitting, cell)
+}
+
+// The ring of a cell, and its sector (RULES 1.2).
+#[no_mangle]
+pub extern "C" fn kerb_ring(cell: u16) -> u16
+    ensures { λ r. ⌜ r ≡ ringOf sectors cell ⌝ }
+{
+    cells::ring(cell)
+}
+
+#[no_mangle]
+pub extern "C" fn kerb_sector(cell: u16) -> u16
+    ensures { λ r. ⌜ r ≡ sectorOf sectors cell ⌝ }
+{
+    cells::sector(cell)
+}
+
+// The version of the interface, and the bytes of a book: a caller compares both with its header's before it opens a book.
+#[no_mangle]
+pub extern "C" fn kerb_version() -> u32
+    ensures { λ r. ⌜ r ≡ version ⌝ }
+{
+    2
+}
+
+#[no_mangle]
+pub extern "C" fn kerb_book_size() -> usize
+    ensures { λ r. ⌜ r ≡ bookSize ⌝ }
+{
+    9300
 }
