@@ -832,7 +832,7 @@ unfolding code.routine tablesOf
     ({fn}-meets 𝓤 H (𝓖 .A) (givenOf 𝓤 H 𝓜 𝓖) (𝓜 .mem) (𝓡 .run) (tablesOf 𝓤 H 𝓜 (tables 𝓤 H 𝓜 𝓡 code.env))
     (cited 𝓤 H (Callee 𝓤 H (𝓖 .A) (𝓜 .mem) (𝓡 .run)) 𝓜 𝓡 code.env {key} g-def.routine code.{calls} (g-thm.met 𝓤 H 𝓜 𝓖 𝓡)))""")
     lines = '\n'.join(o).split('\n')  # as `rt fmt` lays it out: no two spaces in a row, none before a bracket
-    return '\n'.join(re.sub(r' +\)', ')', re.sub(r'(?<=\S) {2,}', ' ', x)).rstrip() for x in lines) + '\n'
+    return '\n'.join(re.sub(r' +([),])', r'\1', re.sub(r'(?<=\S) {2,}', ' ', x)).rstrip() for x in lines) + '\n'
 
 
 # ---- this project's structs, and the functions over a book
