@@ -217,7 +217,7 @@ pub extern "C" fn kerb_sector(cell: u16) -> u16
 
 // The version of the interface, and the bytes of a book: a caller compares both with its header's before it opens a book.
 #[no_mangle]
-pub extern "C" fn kerb_version() -> u32
+pub extern "C" fn kerb_version_2() -> u32
     ensures { λ r. ⌜ r ≡ version ⌝ }
 {
     2
