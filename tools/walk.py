@@ -846,6 +846,7 @@ SETTINGS = Struct('settings', 'Settings', [('t0', 'u32'), ('b', 'u32'), ('n', 'u
 FIELDS_ANSWER = Struct('book', 'fields.FieldsAnswer', [('clock', ('struct', CLOCK)), ('fitting', ('struct', FITTING)), ('number', 'u8')])
 JOINED_ANSWER = Struct('book_joined', 'JoinedAnswer', [('number', 'u8'), ('yes', 'bool'), ('steps', 'u8')])
 CHAIN_ANSWER = Struct('chain', 'ChainAnswer', [('newest', 'u64'), ('cells', 'u16'), ('hold', 'u8'), ('number', 'u8')])
+GROUPS_ANSWER = Struct('window_groups', 'GroupsAnswer', [('links', 'u32'), ('number', 'u8')])
 
 ARRAYS = ['counts', 'forward_parent', 'forward_size', 'backward_parent', 'backward_size', 'backward_label']
 # the fields in the order in which the functions over lent fields take them
@@ -891,6 +892,13 @@ SPECS = {
         lifetimes=ONE + [('param', 'log'), ('param', 'chain')], answer=('struct', CHAIN_ANSWER),
         uses=['use Rattle.chain.specs.Chain.{chainOf, GivesChain}'],
         ensured='GivesChain (chainOf h l-log l-chain one other) r z-chain', says='e'),
+    'kerb_groups': dict(
+        crate='kerb', fn='kerb_groups', struct=BOOK, ref='shr', callee=('window_groups', 'over_fields'),
+        params=[('slice-shr', 'log', 'u16'), ('slice-mut', 'first', 'u16'), ('slice-mut', 'size', 'u16'), ('slice-mut', 'hold', 'u8')],
+        args=FIELDS + [('slice', 'log'), ('slice', 'first'), ('slice', 'size'), ('slice', 'hold')],
+        lifetimes=ONE + [('param', 'log'), ('param', 'first'), ('param', 'size'), ('param', 'hold')], answer=('struct', GROUPS_ANSWER),
+        uses=['use Rattle.window_groups.specs.Call.{groupsGiven, GivesGroups}'],
+        ensured='GivesGroups (groupsGiven h l-log l-first l-size l-hold) r z-first z-size z-hold', says='e'),
 }
 
 if __name__ == '__main__':

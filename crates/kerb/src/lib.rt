@@ -10,6 +10,7 @@ use chain::ChainAnswer;
 use file::Reading;
 use listing::ListAnswer;
 use settings::Settings;
+use window_groups::GroupsAnswer;
 ghost use mathlib.Core.Path.{_≡_};
 ghost use lib.ListN.{length, replicate};
 ghost use Rattle.cells.specs.Cell.{sectors, ringOf, sectorOf, lorryCell, unitCell};
@@ -20,6 +21,7 @@ ghost use Rattle.book.specs.Calls.{Gives, openingOf, linkOf, clockOf};
 ghost use Rattle.chain.specs.Chain.{chainOf, GivesChain};
 ghost use Rattle.file.specs.Format.{readOf, writeNumber, outputOf};
 ghost use Rattle.listing.specs.Listing.{listingOf, GivesListing};
+ghost use Rattle.window_groups.specs.Call.{groupsGiven, GivesGroups};
 ghost use Rattle.kerb.specs.Interface.{version, bookSize};
 
 // A book that was never opened: every call but opening gives 1 for it.
@@ -149,6 +151,34 @@ pub extern "C" fn kerb_chain(
         one,
         other,
         chain,
+    )
+}
+
+// Of each cell its group's smallest cell, number of cells and least hold, at the fronts of three buffers (RULES 8.9).
+#[no_mangle]
+pub extern "C" fn kerb_groups(
+    book: &Book,
+    log: &[u16],
+    first: &mut [u16],
+    size: &mut [u16],
+    hold: &mut [u8],
+) -> GroupsAnswer
+    ensures { λ r. ⌜ GivesGroups (groupsGiven (now (book .entry)) (now (log .entry)) (now (first .entry)) (now (size .entry)) (now (hold .entry)))
+        r (now (first .exit)) (now (size .exit)) (now (hold .exit)) ⌝ }
+{
+    window_groups::over_fields(
+        book.clock,
+        book.fitting,
+        &book.counts,
+        &book.forward_parent,
+        &book.forward_size,
+        &book.backward_parent,
+        &book.backward_size,
+        &book.backward_label,
+        log,
+        first,
+        size,
+        hold,
     )
 }
 
