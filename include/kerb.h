@@ -318,7 +318,7 @@ KERB_LOOK_AT struct kerb_groups_answer kerb_groups(const struct kerb_book *book,
 /* The open slide k, that of the book's time. 0 for a book that was never opened. Stack: 1 KB. */
 KERB_LOOK_AT uint64_t kerb_open_slide(const struct kerb_book *book);
 
-/* The ticks of a slide, from the first to the last, as far as ticks reach. Stack: 1 KB. */
+/* The ticks of a slide, from the first to the last, as far as ticks reach. For an opened book. Stack: not measured yet. */
 KERB_LOOK_AT struct kerb_slide_answer kerb_slide_ticks(const struct kerb_book *book, uint64_t slide);
 
 /*
@@ -373,13 +373,14 @@ KERB_LOOK_AT struct kerb_list_answer kerb_list(const uint8_t *file, size_t file_
 
 /*
  * One record, 8 bytes at the front of the output; cells in the unit's numbers, not judged. m of them are what kerb_write takes.
- * Refuses: 6, an output under KERB_RECORD_BYTES. Stack: 1 KB.
+ * Refuses: 6, an output under KERB_RECORD_BYTES. Stack: not measured yet.
  */
 KERB_LOOK_AT uint8_t kerb_pack(uint32_t tick, uint16_t one, uint16_t other, uint8_t *out, size_t out_bytes);
 
 /*
- * Record i, counted from 0, of record bytes or of a link file. Its cells are not judged.
- * Refuses: 6, no 8 bytes from 8i on. Stack: 1 KB.
+ * Record i, counted from 0, of record bytes or of a link file; of a file i below the m that kerb_read gives, since settings and
+ * trailer are bytes as well. Its cells are not judged.
+ * Refuses: 6, no 8 bytes from 8i on. Stack: not measured yet.
  */
 KERB_LOOK_AT struct kerb_record_answer kerb_unpack(const uint8_t *records, size_t records_bytes, uint32_t i);
 
