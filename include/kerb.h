@@ -380,7 +380,7 @@ KERB_LOOK_AT uint8_t kerb_pack(uint32_t tick, uint16_t one, uint16_t other, uint
 /*
  * Record i, counted from 0, of record bytes or of a link file; of a file i below the m that kerb_read gives, since settings and
  * trailer are bytes as well. Its cells are not judged.
- * Refuses: 6, no 8 bytes from 8i on. Stack: not measured yet.
+ * Refuses: 9, no 8 bytes from 8i on. Stack: not measured yet.
  */
 KERB_LOOK_AT struct kerb_record_answer kerb_unpack(const uint8_t *records, size_t records_bytes, uint32_t i);
 
