@@ -83,7 +83,7 @@ fn records_are_unpacked_where_there_are_eight_bytes() {
                 let record = oracle::record(&bytes, i as usize);
                 (record.tick, record.a, record.b, 0)
             } else {
-                (0, 0, 0, 6)
+                (0, 0, 0, 9)
             };
             assert_eq!(given, expected, "record {i} of {length} bytes");
         }

@@ -76,7 +76,7 @@ pub fn pack(tick: u32, one: UnitCell, other: UnitCell) -> [u8; RECORD_BYTES] {
 ///
 /// let bytes = pack(7, UnitCell(2), UnitCell(3));
 /// assert_eq!(unpack(&bytes, 0), Ok(Record { tick: 7, one: UnitCell(2), other: UnitCell(3) }));
-/// assert!(unpack(&bytes, 1).is_err());
+/// assert_eq!(unpack(&bytes, 1), Err(Refusal::Length));
 /// ```
 #[cfg(feature = "all-calls")]
 pub fn unpack(records: &[u8], i: u32) -> Result<Record, Refusal> {
