@@ -1,7 +1,7 @@
 // The interface for C and Rust: each call of the library under a plain name, over `#[repr(C)]` structs, a slice as a pointer and
-// then a length. Every call promises what its definition says, for every input. Calls that change a book, and joined, are lent its
-// fields where they stand, so that no copy of the book is made; include/kerb.h and rust/kerb put them together again, as calls
-// over one book.
+// then a length. Every call promises what its definition says, for every input. A call over a book takes one reference to it and
+// lends its fields on where they stand, so that no copy of the book is made. The proofs of these calls are walks of their code,
+// written by tools/walk.py.
 use book::fields;
 use book_joined::JoinedAnswer;
 use book_state::Book;
