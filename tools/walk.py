@@ -12,7 +12,7 @@ struct's fields, in place:
 What it takes: fields that are loaded (unsigned integers, structs of plain data), fields that are lent (arrays of unsigned
 integers), slices of unsigned integers as parameters (`&` or `&mut`, handed on), plain parameters (unsigned integers, structs). Each lent field may have a
 lifetime of its own in g (elided), or share one (`<'a>`). The answer of g is F's result, or a struct of which fields are stored
-back into s and one unsigned integer is F's result. One `ensures`, no `requires`.
+back into s and one, an unsigned integer or a struct, is F's result. One `ensures`, no `requires`.
 
 It keeps the context of the proof as a list of names, and so computes every position. usage: walk.py NAME > proofs/NAME/Proof.antt
 """
@@ -426,17 +426,17 @@ Callee 𝓤 H A mem run = tripleOf 𝓤 H A g.signature (g.spec 𝓤 H A mem run
     if tail:
         c.move('has', 'ownr')
     else:
-        c.emit(f"owned ! {out} (Is {out}) {out_p.makes} ({r_}) _ (refl, small) $")
+        c.emit(f"owned ! {out_p.row} (Is {out_p.row}) {out_p.makes} ({r_}) _ is-out $")
         c.l = ['ownr'] + c.l
         c.move('has', 'ownr')
     c.emit('done !')
     lens = [f"(len-{dash(p)} : length z-{dash(p)} ≡ length l-{dash(p)})" for p in gave]
     lastv = nest(['tt' if seen else HX] + [f'z-{dash(p[1])}' if p[1] in gave else 'tt' for p in params])
     fits = nest(['tt'] + [f'len-{dash(p[1])}' if p[1] in gave else 'tt' for p in params])
-    small = '' if tail else f' (small : {r_} < 2 ^ {W[out]})'
+    small = '' if tail else f' (is-out : Is {out_p.row} ({r_}) ({w_} ∷ []))'
     wbind = ' (w : Val)' if tail else ''
     put(f"  exits : (r : {R.denot()}){wbind} {' '.join(f'({z} : List ℕ)' for z in zall)} → Ensured r {' '.join(zall)} → {' '.join(lens)}{' → ' if lens else ''}{small}{' → ' if small else ''}ent 𝓤 (⋆ 𝓤 H A ({own_l})) (Post {w_})\n"
-        f"  exits r{' w' if tail else ''} {' '.join(zall)} e {' '.join(f'len-{dash(p)}' for p in gave)}{'' if tail else ' small'} =\n      qed W ({own_l}) ∵\n"
+        f"  exits r{' w' if tail else ''} {' '.join(zall)} e {' '.join(f'len-{dash(p)}' for p in gave)}{'' if tail else ' is-out'} =\n      qed W ({own_l}) ∵\n"
         f"      suffices ! _ (ends-at 𝓤 H A f.ended stayed (f.clauses 𝓤 H A at-mem run) W {Y} {w_} ({r_}) {lastv} {fits}) $ says ! {d['says']} $\n      {c.line()}\n")
     # ---- what goes to the callee
     for f in lent:
@@ -778,7 +778,7 @@ Callee 𝓤 H A mem run = tripleOf 𝓤 H A g.signature (g.spec 𝓤 H A mem run
     c.emit('free0 ! $')
     ks = ''.join(f'{c.pos(k)} ∷ ' for k, _ in items)
     lens_ = ' '.join(f'len-{dash(p)}' for p in gave)
-    sm = '' if tail else f' ({part_is(d["returns"])} .1)'
+    sm = '' if tail else f' {part_is(d["returns"])}'
     c.emit(f"keep ! ({ks}[]) $ by ! (exits r{' w' if tail else ''} {' '.join(zv)} e {lens_}{sm})" + ')' * opened)
     put(ind + c.line() + '\n')
 
@@ -847,6 +847,9 @@ FIELDS_ANSWER = Struct('book', 'fields.FieldsAnswer', [('clock', ('struct', CLOC
 JOINED_ANSWER = Struct('book_joined', 'JoinedAnswer', [('number', 'u8'), ('yes', 'bool'), ('steps', 'u8')])
 CHAIN_ANSWER = Struct('chain', 'ChainAnswer', [('newest', 'u64'), ('cells', 'u16'), ('hold', 'u8'), ('number', 'u8')])
 GROUPS_ANSWER = Struct('window_groups', 'GroupsAnswer', [('links', 'u32'), ('number', 'u8')])
+PLAY_ANSWER = Struct('file_play', 'PlayAnswer', [('taken', 'u32'), ('number', 'u8')])
+PLAYED_FIELDS = Struct('file_play', 'PlayedFields', [('clock', ('struct', CLOCK)), ('fitting', ('struct', FITTING)), ('answer', ('struct', PLAY_ANSWER))])
+SLIDE_TICKS = Struct('slides', 'SlideTicks', [('first', 'u32'), ('last', 'u32'), ('exists', 'bool')])
 
 ARRAYS = ['counts', 'forward_parent', 'forward_size', 'backward_parent', 'backward_size', 'backward_label']
 # the fields in the order in which the functions over lent fields take them
@@ -859,6 +862,9 @@ SPECS = {
     'kerb_open_slide': dict(
         crate='kerb', fn='kerb_open_slide', struct=BOOK, ref='shr', callee=('slides', 'open_slide'), params=[], args=[('load', 'clock')], lifetimes=[], answer='u64',
         uses=['use Rattle.slides.specs.Clock.{openSlide}'], ensured='r ≡ openSlide (h .clock)', says='e'),
+    'kerb_slide_ticks': dict(
+        crate='kerb', fn='kerb_slide_ticks', struct=BOOK, ref='shr', callee=('slides', 'ticks'), params=[('num', 'slide', 'u64')], args=[('load', 'clock'), ('num', 'slide')], lifetimes=[],
+        answer=('struct', SLIDE_TICKS), uses=['use Rattle.slides.specs.Clock.{ticksOf}'], ensured='r ≡ ticksOf (h .clock) slide', says='e'),
     'kerb_link': dict(
         crate='kerb', fn='kerb_link', struct=BOOK, ref='mut', callee=('book', 'fields.link'),
         params=[('slice-mut', 'log', 'u16'), ('num', 'tick', 'u32'), ('num', 'one', 'u16'), ('num', 'other', 'u16')],
@@ -880,6 +886,13 @@ SPECS = {
         answer=('struct', FIELDS_ANSWER), stores=[('clock', 'clock'), ('fitting', 'fitting')], returns='number',
         uses=['use Rattle.book.specs.Calls.{GivesFields, openingOf}'],
         ensured=f'GivesFields (openingOf h l-log s) r {ZS} z-log', says='e'),
+    'kerb_play': dict(
+        crate='kerb', fn='kerb_play', struct=BOOK, ref='mut', callee=('file_play', 'play_file'),
+        params=[('slice-mut', 'log', 'u16'), ('slice-shr', 'file', 'u8')],
+        args=FIELDS + [('slice', 'log'), ('slice', 'file')], lifetimes=EACH + [('param', 'log'), ('param', 'file')],
+        answer=('struct', PLAYED_FIELDS), stores=[('clock', 'clock'), ('fitting', 'fitting')], returns='answer',
+        uses=['use Rattle.file_play.specs.Play.{GivesPlayFields, playOf}'],
+        ensured=f'GivesPlayFields (playOf l-file h l-log) r {ZS} z-log', says='e'),
     'kerb_joined': dict(
         crate='kerb', fn='kerb_joined', struct=BOOK, ref='shr', callee=('book_joined', 'over_fields'),
         params=[('num', 'one', 'u16'), ('num', 'other', 'u16')],

@@ -1,25 +1,31 @@
 // The interface for C and Rust: each call of the library under a plain name, over `#[repr(C)]` structs, a slice as a pointer and
-// then a length. Every call promises what its definition says, for every input. Calls that change a book, and joined, are lent its
-// fields where they stand, so that no copy of the book is made; include/kerb.h and rust/kerb put them together again, as calls
-// over one book.
+// then a length. Every call promises what its definition says, for every input. A call over a book takes one reference to it and
+// lends its fields on where they stand, so that no copy of the book is made. The proofs of these calls are walks of their code,
+// written by tools/walk.py.
 use book::fields;
 use book_joined::JoinedAnswer;
 use book_state::Book;
 use cells::Fitting;
 use chain::ChainAnswer;
 use file::Reading;
+use file_play::PlayAnswer;
+use file_play::records;
+use file_play::records::RecordAnswer;
 use listing::ListAnswer;
 use settings::Settings;
+use slides::SlideTicks;
 use window_groups::GroupsAnswer;
 ghost use mathlib.Core.Path.{_≡_};
 ghost use lib.ListN.{length, replicate};
 ghost use Rattle.cells.specs.Cell.{sectors, ringOf, sectorOf, lorryCell, unitCell};
-ghost use Rattle.slides.specs.Clock.{openSlide};
+ghost use Rattle.slides.specs.Clock.{openSlide, ticksOf};
 ghost use Rattle.book_state.specs.Order.{neverOpened};
 ghost use Rattle.book_joined.specs.Joined.{joinedOf};
 ghost use Rattle.book.specs.Calls.{Gives, openingOf, linkOf, clockOf};
 ghost use Rattle.chain.specs.Chain.{chainOf, GivesChain};
 ghost use Rattle.file.specs.Format.{readOf, writeNumber, outputOf};
+ghost use Rattle.file_play.specs.Play.{playOf, GivesPlay};
+ghost use Rattle.file_play.specs.Record.{packNumber, packedOf, recordOf};
 ghost use Rattle.listing.specs.Listing.{listingOf, GivesListing};
 ghost use Rattle.window_groups.specs.Call.{groupsGiven, GivesGroups};
 ghost use Rattle.kerb.specs.Interface.{version, bookSize};
@@ -100,6 +106,28 @@ pub extern "C" fn kerb_clock(book: &mut Book, log: &[u16], tick: u32) -> u8
     moved.number
 }
 
+// The records of a link file, one after the other, up to the first that is refused; those before it stay (RULES 6.6 to 6.9).
+#[no_mangle]
+pub extern "C" fn kerb_play(book: &mut Book, log: &mut [u16], file: &[u8]) -> PlayAnswer
+    ensures { λ r. ⌜ GivesPlay (playOf (now (file .entry)) (now (book .entry)) (now (log .entry))) (now (book .exit)) r (now (log .exit)) ⌝ }
+{
+    let played = file_play::play_file(
+        book.clock,
+        book.fitting,
+        &mut book.counts,
+        &mut book.forward_parent,
+        &mut book.forward_size,
+        &mut book.backward_parent,
+        &mut book.backward_size,
+        &mut book.backward_label,
+        log,
+        file,
+    );
+    book.clock = played.clock;
+    book.fitting = played.fitting;
+    played.answer
+}
+
 // Whether the window's links join the two cells, and the steps of the walks.
 #[no_mangle]
 pub extern "C" fn kerb_joined(book: &Book, one: u16, other: u16) -> JoinedAnswer
@@ -125,6 +153,14 @@ pub extern "C" fn kerb_open_slide(book: &Book) -> u64
     ensures { λ r. ⌜ r ≡ openSlide (now (book .entry) .clock) ⌝ }
 {
     slides::open_slide(book.clock)
+}
+
+// The ticks of a slide, from the first to the last, and whether any tick reaches it.
+#[no_mangle]
+pub extern "C" fn kerb_slide_ticks(book: &Book, slide: u64) -> SlideTicks
+    ensures { λ r. ⌜ r ≡ ticksOf (now (book .entry) .clock) slide ⌝ }
+{
+    slides::ticks(book.clock, slide)
 }
 
 // The chain goes to the front of the buffer.
@@ -197,6 +233,23 @@ pub extern "C" fn kerb_write(s: Settings, records: &[u8], out: &mut [u8]) -> u8
     ensures output { λ _. ⌜ now (out .exit) ≡ outputOf s (now (records .entry)) (now (out .entry)) ⌝ }
 {
     file::write(s, records, out)
+}
+
+// The 8 bytes of a record at the front of the output (RULES 6.2).
+#[no_mangle]
+pub extern "C" fn kerb_pack(tick: u32, one: u16, other: u16, out: &mut [u8]) -> u8
+    ensures number { λ r. ⌜ r ≡ packNumber (length (now (out .entry))) ⌝ }
+    ensures output { λ _. ⌜ now (out .exit) ≡ packedOf tick one other (now (out .entry)) ⌝ }
+{
+    records::pack(tick, one, other, out)
+}
+
+// Record i of these bytes (RULES 6.2).
+#[no_mangle]
+pub extern "C" fn kerb_unpack(records: &[u8], i: u32) -> RecordAnswer
+    ensures { λ r. ⌜ r ≡ recordOf (now (records .entry)) i ⌝ }
+{
+    records::unpack(records, i)
 }
 
 // What kerblist prints for a link file, at the front of the output.

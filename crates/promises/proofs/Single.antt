@@ -94,7 +94,16 @@ single =
       half-word = λ bytes place. equal;
       word = λ bytes place. equal;
       play-fields = λ file m b log. play-gives _;
+      play-file = λ file b log. play-gives _;
+      pack = λ tick one other out. both;
+      unpack = λ records i. equal;
       of-window = λ clock counts log. equal;
+      groups = λ b log first size hold r s p q i. (
+        equal (r .0) (s .0) (p .answered) (q .answered) i,
+        equal (r .1) (s .1) (p .firsts) (q .firsts) i,
+        equal (r .2) (s .2) (p .sizes) (q .sizes) i,
+        equal (r .3) (s .3) (p .holds) (q .holds) i,
+      );
       put-word = λ word out at. written;
       put-fields = λ word numbers out at. written;
       put-line = λ word numbers out at. written;
@@ -106,6 +115,7 @@ single =
       in-range = λ clock. equal;
       not-before = λ clock tick. equal;
       slide = λ clock tick. equal;
+      ticks = λ clock slide. equal;
       open-slide = λ clock. equal;
       chunk = λ clock slide. equal;
       place = λ clock slide. equal;

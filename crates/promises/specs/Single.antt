@@ -8,7 +8,7 @@ use Rattle.settings.specs.Settings.{settingsNumber}
 use Rattle.settings.specs.declared.Settings.{Settings}
 use Rattle.cells.specs.declared.Fitting.{Fitting}
 use Rattle.cells.specs.Cell.{mirror, lorryCell}
-use Rattle.slides.specs.Clock.{notBefore, slideOf, openSlide, chunkOf, placeOf, started, movedTo, clockInRange}
+use Rattle.slides.specs.Clock.{notBefore, slideOf, ticksOf, openSlide, chunkOf, placeOf, started, movedTo, clockInRange}
 use Rattle.slides.specs.declared.Clock.{Clock}
 use Rattle.forest.specs.Arrays.{places, freshParents, freshSizes, freshLabels, walkOf, walkAtOf, rootsOf, rootsAtOf}
 use Rattle.forest_unite.specs.United.{mergeOfRoots, mergeOf, mergedParents, mergedSizes, mergedLabels, United}
@@ -19,8 +19,11 @@ use Rattle.forest_cross.specs.Across.{JoinedAcross}
 use Rattle.file.specs.Format.{readOf, writeNumber, outputOf}
 use Rattle.file.specs.Layout.{halfAt, wordAt}
 use Rattle.file_play.specs.declared.PlayedFields.{PlayedFields}
-use Rattle.file_play.specs.Play.{Play, GivesPlayFields, playFrom}
+use Rattle.file_play.specs.Play.{Play, GivesPlayFields, playFrom, playOf}
+use Rattle.file_play.specs.Record.{packNumber, packedOf, recordOf}
 use Rattle.window_groups.specs.Groups.{groupsOf}
+use Rattle.window_groups.specs.declared.GroupsAnswer.{GroupsAnswer}
+use Rattle.window_groups.specs.Call.{groupsGiven, GivesGroups}
 use Rattle.text.specs.Output.{WrittenAt}
 use Rattle.text.specs.Text.{fields, line}
 use Rattle.listing.specs.declared.ListAnswer.{ListAnswer}
@@ -102,8 +105,14 @@ pub record Single : Type 0 where
   pub word : (bytes : List ℕ) (place : ℕ) → AtMostOne (λ r. r ≡ wordAt bytes place)
   -- file_play
   pub play-fields : (file : List ℕ) (m : ℕ) (b : Book) (log : List ℕ) → AtMostOne (PlayGives (playFrom file 0 m b log))
+  pub play-file : (file : List ℕ) (b : Book) (log : List ℕ) → AtMostOne (PlayGives (playOf file b log))
+  pub pack : (tick one other : ℕ) (out : List ℕ) →
+      AtMostOne {A = ℕ × List ℕ} (λ r. (r .0 ≡ packNumber (length out)) × (r .1 ≡ packedOf tick one other out))
+  pub unpack : (records : List ℕ) (i : ℕ) → AtMostOne (λ r. r ≡ recordOf records i)
   -- window_groups
   pub of-window : (clock : Clock) (counts log : List ℕ) → AtMostOne (λ r. r ≡ groupsOf clock counts log)
+  pub groups : (b : Book) (log first size hold : List ℕ) →
+      AtMostOne {A = GroupsAnswer × List ℕ × List ℕ × List ℕ} (λ r. GivesGroups (groupsGiven b log first size hold) (r .0) (r .1) (r .2) (r .3))
   -- text
   pub put-word : (word out : List ℕ) (at : ℕ) → AtMostOne {A = ℕ × List ℕ} (λ r. WrittenAt word at out (r .0) (r .1))
   pub put-fields : (word numbers out : List ℕ) (at : ℕ) →
@@ -121,6 +130,7 @@ pub record Single : Type 0 where
   pub in-range : (clock : Clock) → AtMostOne (λ r. r ≡ clockInRange clock)
   pub not-before : (clock : Clock) (tick : ℕ) → AtMostOne (λ r. r ≡ notBefore clock tick)
   pub slide : (clock : Clock) (tick : ℕ) → AtMostOne (λ r. r ≡ slideOf clock tick)
+  pub ticks : (clock : Clock) (slide : ℕ) → AtMostOne (λ r. r ≡ ticksOf clock slide)
   pub open-slide : (clock : Clock) → AtMostOne (λ r. r ≡ openSlide clock)
   pub chunk : (clock : Clock) (slide : ℕ) → AtMostOne (λ r. r ≡ chunkOf clock slide)
   pub place : (clock : Clock) (slide : ℕ) → AtMostOne (λ r. r ≡ placeOf clock slide)

@@ -7,15 +7,16 @@ use Prim.Native.Nat.{ℕ, zero, suc, _+_, _-_, _*_, _/_, _%_, _≤_, _<_}
 use mathlib.Core.Bool.{Bool, true, false, cond, _&&_, _||_, false≢true}
 use mathlib.Core.Logic.{_⊎_, inl, inr, _↔_, ⊎-elim}
 use mathlib.Core.List.{List}
-use mathlib.Core.Path.{_≡_, refl, ap}
-use lib.Dec.{eqb, leb}
-use borrow.Author.Tests.{le-leb, leb-true, ne-eqb}
+use mathlib.Core.Path.{_≡_, refl, sym, ap, _∙_}
+use lib.Dec.{eqb, leb, ltb}
+use borrow.Author.Tests.{le-leb, leb-true, le-ltb, ne-eqb}
 use native.Mathlib.Nat.{le-refl, le-trans, zero-lt-suc, lt-of-le-of-lt, sub-self, sub-le, zero-div, div-zero, div-le-self, div-mul-le-self, le-div-iff-mul-le, div-add-mod', mod-lt, eq-or-lt-of-le, mul-le-mul-right, add-mul}
 use native.Mathlib.Omega.{arith}
+use native.Mathlib.Decide.{decLt}
 use Rattle.settings.specs.Settings.{takenNumber}
 use Rattle.settings.specs.declared.Settings.{Settings}
 use Rattle.slides.specs.declared.Clock.{Clock}
-use Rattle.slides.specs.Clock.{tickLimit, slideLimit, notBefore, slideOf, openSlide, chunkOf, placeOf, started, movedTo, clockInRange}
+use Rattle.slides.specs.Clock.{tickLimit, slideLimit, notBefore, slideOf, firstTick, hasTicks, ticksIf, ticksOf, openSlide, chunkOf, placeOf, started, movedTo, clockInRange}
 
 -- ---- the clock and its ticks
 
@@ -200,3 +201,71 @@ moved-in-range clock tick e =
     later : (t : Bool) → leb (clock .time) tick ≡ t → clock .time ≤ cond t tick (clock .time)
     later true q = leb-true _ _ q
     later false q = le-refl (clock .time)
+
+-- ---- the ticks of a slide
+
+-- a slide begins where ticks are exactly when it is not after the slide of the last tick
+module _ (t0 b slide : ℕ) (some : 0 < b) (fits : t0 < tickLimit) where
+  pub begins : slide ≤ (tickLimit - 1 - t0) / b → t0 + slide * b < tickLimit
+  begins h = omega (arith, le-div-iff-mul-le some .0 h)
+
+  pub never-begins : (tickLimit - 1 - t0) / b < slide → tickLimit ≤ t0 + slide * b
+  never-begins h = go (decLt (t0 + slide * b) tickLimit)
+    where
+      go : Dec (t0 + slide * b < tickLimit) → tickLimit ≤ t0 + slide * b
+      go (yes k) =
+          let m : slide * b ≤ tickLimit - 1 - t0 = omega arith in
+          absurd (omega (arith, le-div-iff-mul-le some .1 m))
+      go (no k) = omega arith
+
+-- where a slide has ticks, a tick from T0 on is of that slide exactly when it is one of them
+module _ (clock : Clock) (slide tick : ℕ) (exists : ticksOf clock slide .exists ≡ true) (from : clock .t0 ≤ tick) (fits : tick < tickLimit) where
+  some : 0 < clock .b
+  unfolding ticksIf
+  some = go (decLt 0 (clock .b))
+    where
+      go : Dec (0 < clock .b) → 0 < clock .b
+      go (yes h) = h
+      go (no h) = absurd (false≢true (sym (ap (λ t. ticksIf (t && ltb (firstTick clock slide) tickLimit) (firstTick clock slide) (clock .b) .exists) (le-ltb 0 (clock .b) (omega arith))) ∙ exists))
+
+  as-ticks : ticksOf clock slide ≡ ticksIf true (firstTick clock slide) (clock .b)
+  unfolding ticksIf
+  as-ticks = go (hasTicks clock slide) exists
+    where
+      go : (t : Bool) → ticksIf t (firstTick clock slide) (clock .b) .exists ≡ true → ticksIf t (firstTick clock slide) (clock .b) ≡ ticksIf true (firstTick clock slide) (clock .b)
+      go true e = refl
+      go false e = absurd (false≢true e)
+
+  next : (slide + 1) * clock .b ≡ slide * clock .b + clock .b
+  next = omega (arith, add-mul slide 1 (clock .b))
+
+  pub slide-ticks : (slideOf clock tick ≡ slide) ↔ ((ticksOf clock slide .first ≤ tick) × (tick ≤ ticksOf clock slide .last))
+  unfolding slideOf ticksIf
+  slide-ticks = (there, back)
+    where
+      there : slideOf clock tick ≡ slide → (ticksOf clock slide .first ≤ tick) × (tick ≤ ticksOf clock slide .last)
+      there e =
+          let low : slide * clock .b ≤ tick - clock .t0 = le-div-iff-mul-le some .0 (rw e (le-refl slide)) in
+          let high : tick - clock .t0 < slide * clock .b + clock .b = below (decLt (tick - clock .t0) (slide * clock .b + clock .b)) in
+          rw as-ticks (omega arith, omega arith)
+        where
+          below : Dec (tick - clock .t0 < slide * clock .b + clock .b) → tick - clock .t0 < slide * clock .b + clock .b
+          below (yes h) = h
+          below (no h) =
+              let m : (slide + 1) * clock .b ≤ tick - clock .t0 = rw next (omega arith) in
+              absurd (omega (arith, le-div-iff-mul-le some .1 m, e))
+
+      back : (ticksOf clock slide .first ≤ tick) × (tick ≤ ticksOf clock slide .last) → slideOf clock tick ≡ slide
+      back w =
+          let v : (firstTick clock slide ≤ tick) × (tick ≤ ticksIf true (firstTick clock slide) (clock .b) .last) = rw as-ticks at w in
+          let low : slide * clock .b ≤ tick - clock .t0 = omega (arith, v .0) in
+          let least : slide ≤ slideOf clock tick = le-div-iff-mul-le some .1 low in
+          let most : slideOf clock tick < slide + 1 = above (decLt (slideOf clock tick) (slide + 1)) v in
+          omega arith
+        where
+          above : Dec (slideOf clock tick < slide + 1) → (firstTick clock slide ≤ tick) × (tick ≤ ticksIf true (firstTick clock slide) (clock .b) .last)
+              → slideOf clock tick < slide + 1
+          above (yes h) v = h
+          above (no h) v =
+              let m : slide + 1 ≤ (tick - clock .t0) / clock .b = omega arith in
+              absurd (omega (arith, le-div-iff-mul-le some .0 m, next, v .1, some))

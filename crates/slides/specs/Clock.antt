@@ -1,14 +1,15 @@
 -- The clock of a book, and what follows from it: slides, chunks, places (RULES 2 and 3).
 --
 -- Every definition is total. A slide of 0 ticks and a window of 0 slides, which no book holds, give 0 (RULES 2.15).
-use Prim.Native.Nat.{ℕ, _-_, _/_, _^_, _%_}
-use mathlib.Core.Bool.{Bool, cond, _&&_}
-use lib.Dec.{eqb, leb}
+use Prim.Native.Nat.{ℕ, _+_, _-_, _*_, _/_, _^_, _%_, min}
+use mathlib.Core.Bool.{Bool, true, false, cond, _&&_}
+use lib.Dec.{eqb, leb, ltb}
 use lib.ListN.{replicate}
 use Rattle.numbers.specs.Kinds.{Chunk, Place, Slide, Tick}
 use Rattle.settings.specs.Settings.{heldInRange}
 use Rattle.settings.specs.declared.Settings.{Settings}
 use Rattle.slides.specs.declared.Clock.{Clock}
+use Rattle.slides.specs.declared.SlideTicks.{SlideTicks}
 
 -- ticks are below this limit: they have 32 bits (RULES 2.2)
 abbrev pub tickLimit : ℕ
@@ -25,6 +26,22 @@ notBefore clock tick = leb (clock .time) tick
 -- slide of a tick = (tick - T0) div B (RULES 2.4)
 unfoldable pub slideOf : (clock : Clock) (tick : Tick) → Slide
 slideOf clock tick = (tick - clock .t0) / clock .b
+
+-- the first tick of a slide (RULES 2.4)
+abbrev pub firstTick : (clock : Clock) (slide : Slide) → Tick
+firstTick clock slide = clock .t0 + slide * clock .b
+
+-- some tick reaches the slide
+abbrev pub hasTicks : (clock : Clock) (slide : Slide) → Bool
+hasTicks clock slide = ltb 0 (clock .b) && ltb (firstTick clock slide) tickLimit
+
+-- the ticks of a slide that some tick reaches, from the first to the last: it is cut short where ticks end (RULES 2.2)
+unfoldable pub ticksIf : (exists : Bool) (first b : ℕ) → SlideTicks
+ticksIf true first b = record { first = first; last = min (first + (b - 1)) (tickLimit - 1); exists = true }
+ticksIf false first b = record { first = 0; last = 0; exists = false }
+
+abbrev pub ticksOf : (clock : Clock) (slide : Slide) → SlideTicks
+ticksOf clock slide = ticksIf (hasTicks clock slide) (firstTick clock slide) (clock .b)
 
 -- the open slide k is the slide of the latest time (RULES 2.4)
 abbrev pub openSlide : Clock → ℕ

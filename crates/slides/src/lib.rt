@@ -2,7 +2,7 @@
 // step that moves time.
 use settings::Settings;
 ghost use mathlib.Core.Path.{_≡_};
-ghost use Rattle.slides.specs.Clock.{notBefore, slideOf, openSlide, chunkOf, placeOf, started, movedTo, clockInRange};
+ghost use Rattle.slides.specs.Clock.{notBefore, slideOf, ticksOf, openSlide, chunkOf, placeOf, started, movedTo, clockInRange};
 
 #[repr(C)]
 pub struct Clock {
@@ -68,6 +68,50 @@ pub fn slide(clock: Clock, tick: u32) -> u64
         return 0;
     }
     ((tick - t0) / b) as u64
+}
+
+// The ticks of a slide, from the first to the last, and whether there are any; else both are 0.
+#[repr(C)]
+pub struct SlideTicks {
+    pub first: u32,
+    pub last: u32,
+    pub exists: bool,
+}
+
+pub fn ticks(clock: Clock, slide: u64) -> SlideTicks
+    ensures { λ r. ⌜ r ≡ ticksOf clock slide ⌝ }
+{
+    let t0 = clock.t0;
+    let b = clock.b;
+    if b == 0 {
+        return SlideTicks {
+            first: 0,
+            last: 0,
+            exists: false,
+        };
+    }
+    // The slide of the last tick there is.
+    let latest = (4294967295 - t0) / b;
+    if (latest as u64) < slide {
+        return SlideTicks {
+            first: 0,
+            last: 0,
+            exists: false,
+        };
+    }
+    let first = t0 + (slide as u32) * b;
+    if 4294967295 - first < b - 1 {
+        return SlideTicks {
+            first,
+            last: 4294967295,
+            exists: true,
+        };
+    }
+    SlideTicks {
+        first,
+        last: first + (b - 1),
+        exists: true,
+    }
 }
 
 pub fn open_slide(clock: Clock) -> u64
