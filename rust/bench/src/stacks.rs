@@ -62,11 +62,9 @@ fn questions(stacks: &mut Vec<Stack>) {
         black_box(library.chain(one, other, &mut lent));
     });
     stacks.push(("chain of 1,023 links", chain));
-    #[cfg(feature = "all-calls")]
     stacks.push(("groups", groups(&played(&dense(16, 256)).0)));
 }
 
-#[cfg(feature = "all-calls")]
 fn groups(library: &Library) -> usize {
     let (mut first, mut size) = (vec![0; kerb::CELLS], vec![0; kerb::CELLS]);
     let mut hold = vec![0; kerb::CELLS];
@@ -121,7 +119,6 @@ fn files(stacks: &mut Vec<Stack>) {
         kerb::list(&file, &mut text).expect("a long enough output");
     });
     stacks.push(("list, 8,000 records", listing));
-    #[cfg(feature = "all-calls")]
     {
         let mut book = kerb::Book::open(settings).expect("good settings");
         let playing = used(|| {

@@ -117,7 +117,6 @@ impl Book {
 }
 
 /// A group of cells that links of the window chain together.
-#[cfg(feature = "all-calls")]
 #[derive(Clone, Copy, Debug, PartialEq, Eq)]
 pub struct Group {
     /// Its smallest cell.
@@ -129,7 +128,6 @@ pub struct Group {
 }
 
 /// The groups of a window.
-#[cfg(feature = "all-calls")]
 #[derive(Clone, Debug, PartialEq, Eq)]
 pub struct Groups {
     first: Vec<u16>,
@@ -138,7 +136,6 @@ pub struct Groups {
     links: u32,
 }
 
-#[cfg(feature = "all-calls")]
 impl Groups {
     /// How many links the window holds, repeats counted.
     pub fn links(&self) -> u32 {
@@ -165,7 +162,6 @@ impl Groups {
     }
 }
 
-#[cfg(feature = "all-calls")]
 impl Book {
     /// A book with a link file's settings, and the file played into it.
     ///

@@ -197,10 +197,6 @@ mod library {
             out: *mut u8,
             out_bytes: usize,
         ) -> ListAnswer;
-    }
-
-    #[cfg(feature = "all-calls")]
-    unsafe extern "C" {
         pub safe fn kerb_version_2() -> u32;
         pub safe fn kerb_book_size() -> usize;
         pub safe fn kerb_lorry_cell(mounting: u8, cell: u16) -> u16;
@@ -241,7 +237,6 @@ pub fn never_opened() -> RawBook {
 
 /// A library of another version does not link: each has the function of its own version alone.
 pub fn opening(book: &mut RawBook, log: &mut [u16], settings: Settings) -> u8 {
-    #[cfg(feature = "all-calls")]
     library::kerb_version_2();
     unsafe { library::kerb_opening(book, log.as_mut_ptr(), log.len(), settings) }
 }
@@ -276,7 +271,6 @@ pub fn list(file: &[u8], out: &mut [u8]) -> ListAnswer {
     unsafe { library::kerb_list(file.as_ptr(), file.len(), out.as_mut_ptr(), out.len()) }
 }
 
-#[cfg(feature = "all-calls")]
 mod all {
     use super::*;
 
@@ -348,7 +342,6 @@ mod all {
     }
 }
 
-#[cfg(feature = "all-calls")]
 pub use all::*;
 
 impl RawBook {

@@ -1,6 +1,5 @@
 //! Cells in the unit's numbers and cells in the lorry's: two types, so that the one is never taken for the other.
 
-#[cfg(feature = "all-calls")]
 use crate::calls;
 use crate::Refusal;
 
@@ -44,7 +43,6 @@ pub struct UnitCell(pub u16);
 #[repr(transparent)]
 pub struct LorryCell(pub u16);
 
-#[cfg(feature = "all-calls")]
 impl UnitCell {
     /// The same cell in the lorry's numbers. A number that is no cell stays as it is.
     ///
@@ -67,7 +65,6 @@ impl UnitCell {
     }
 }
 
-#[cfg(feature = "all-calls")]
 impl LorryCell {
     /// The same cell in the unit's numbers. A number that is no cell stays as it is.
     pub fn to_unit(self, mounting: Mounting) -> UnitCell {

@@ -1,9 +1,7 @@
 //! Link files: records of 8 bytes, then settings and trailer. Their cells are in the unit's numbers.
 
 use crate::{calls, Mounting, Refusal, Settings};
-#[cfg(feature = "all-calls")]
 use crate::{UnitCell, RECORD_BYTES};
-#[cfg(feature = "all-calls")]
 use core::fmt;
 
 /// The settings of a link file, and how many records stand at its front.
@@ -32,7 +30,6 @@ pub fn list(file: &[u8], out: &mut [u8]) -> Result<usize, Refusal> {
 }
 
 /// A link as link files have it.
-#[cfg(feature = "all-calls")]
 #[derive(Clone, Copy, Debug, PartialEq, Eq)]
 pub struct Record {
     pub tick: u32,
@@ -41,7 +38,6 @@ pub struct Record {
 }
 
 /// Where playing a file stopped, and why.
-#[cfg(feature = "all-calls")]
 #[derive(Clone, Copy, Debug, PartialEq, Eq)]
 pub struct Stopped {
     /// How many records were taken before; they stay in the book. Where the link call refused it is the place of that record,
@@ -50,18 +46,15 @@ pub struct Stopped {
     pub refusal: Refusal,
 }
 
-#[cfg(feature = "all-calls")]
 impl fmt::Display for Stopped {
     fn fmt(&self, f: &mut fmt::Formatter) -> fmt::Result {
         write!(f, "after {} records, {}", self.taken, self.refusal)
     }
 }
 
-#[cfg(feature = "all-calls")]
 impl core::error::Error for Stopped {}
 
 /// The bytes of one record.
-#[cfg(feature = "all-calls")]
 pub fn pack(tick: u32, one: UnitCell, other: UnitCell) -> [u8; RECORD_BYTES] {
     let mut bytes = [0; RECORD_BYTES];
     let number = calls::pack(tick, one.0, other.0, &mut bytes);
@@ -78,7 +71,6 @@ pub fn pack(tick: u32, one: UnitCell, other: UnitCell) -> [u8; RECORD_BYTES] {
 /// assert_eq!(unpack(&bytes, 0), Ok(Record { tick: 7, one: UnitCell(2), other: UnitCell(3) }));
 /// assert_eq!(unpack(&bytes, 1), Err(Refusal::Length));
 /// ```
-#[cfg(feature = "all-calls")]
 pub fn unpack(records: &[u8], i: u32) -> Result<Record, Refusal> {
     let answer = calls::unpack(records, i);
     Refusal::unless_done(answer.number)?;

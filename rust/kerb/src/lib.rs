@@ -33,12 +33,11 @@ mod refusal;
 
 #[cfg(feature = "alloc")]
 pub use book::Book;
-#[cfg(all(feature = "alloc", feature = "all-calls"))]
+#[cfg(feature = "alloc")]
 pub use book::{Group, Groups};
 pub use calls::RawBook;
 pub use cells::{LorryCell, Mounting, UnitCell};
 pub use files::{list, read, write};
-#[cfg(feature = "all-calls")]
 pub use files::{pack, unpack, Record, Stopped};
 pub use refusal::Refusal;
 

@@ -74,7 +74,6 @@ impl RawBook {
     }
 }
 
-#[cfg(feature = "all-calls")]
 impl RawBook {
     /// The open slide, that of the book's time.
     pub fn open_slide(&self) -> u64 {
