@@ -309,7 +309,7 @@ KERB_LOOK_AT struct kerb_chain_answer kerb_chain(const struct kerb_book *book, c
  * has, and its least hold, for how many further closings any two of them stay joined. Cell c in the lorry's numbers. A cell that
  * no link holds to another is alone: its own number, 1, and n, read as "always". Each length is that of its array in places, at
  * least KERB_CELLS; later places keep what they had.
- * Refuses, in this order: 1, 6 (the log or an array). Stack: 51 KB.
+ * Refuses, in this order: 1, 6 (the log or an array). Stack: 54 KB.
  */
 KERB_LOOK_AT struct kerb_groups_answer kerb_groups(const struct kerb_book *book, const uint16_t *log, size_t log_places,
                                                    uint16_t *first, size_t first_places, uint16_t *size, size_t size_places,
@@ -318,7 +318,7 @@ KERB_LOOK_AT struct kerb_groups_answer kerb_groups(const struct kerb_book *book,
 /* The open slide k, that of the book's time. 0 for a book that was never opened. Stack: 1 KB. */
 KERB_LOOK_AT uint64_t kerb_open_slide(const struct kerb_book *book);
 
-/* The ticks of a slide, from the first to the last, as far as ticks reach. For an opened book. Stack: not measured yet. */
+/* The ticks of a slide, from the first to the last, as far as ticks reach. For an opened book. Stack: 1 KB. */
 KERB_LOOK_AT struct kerb_slide_answer kerb_slide_ticks(const struct kerb_book *book, uint64_t slide);
 
 /*
@@ -359,7 +359,7 @@ KERB_LOOK_AT uint8_t kerb_write(struct kerb_settings settings, const uint8_t *re
  * opens one first, with the settings that kerb_read gives. Stops at the first record that is refused: `taken` is then its
  * place from 0, and THE RECORDS BEFORE IT STAY in the book.
  * Refuses, in this order: 9, 10, 11, 12, 2 as kerb_read, with nothing played; then for each record 1, 6, 3, 4, 5.
- * Stack: not measured yet.
+ * Stack: 5 KB.
  */
 KERB_LOOK_AT struct kerb_play_answer kerb_play(struct kerb_book *book, uint16_t *log, size_t log_places, const uint8_t *file,
                                                size_t file_bytes);
@@ -373,14 +373,14 @@ KERB_LOOK_AT struct kerb_list_answer kerb_list(const uint8_t *file, size_t file_
 
 /*
  * One record, 8 bytes at the front of the output; cells in the unit's numbers, not judged. m of them are what kerb_write takes.
- * Refuses: 6, an output under KERB_RECORD_BYTES. Stack: not measured yet.
+ * Refuses: 6, an output under KERB_RECORD_BYTES. Stack: 1 KB.
  */
 KERB_LOOK_AT uint8_t kerb_pack(uint32_t tick, uint16_t one, uint16_t other, uint8_t *out, size_t out_bytes);
 
 /*
  * Record i, counted from 0, of record bytes or of a link file; of a file i below the m that kerb_read gives, since settings and
  * trailer are bytes as well. Its cells are not judged.
- * Refuses: 9, no 8 bytes from 8i on. Stack: not measured yet.
+ * Refuses: 9, no 8 bytes from 8i on. Stack: 1 KB.
  */
 KERB_LOOK_AT struct kerb_record_answer kerb_unpack(const uint8_t *records, size_t records_bytes, uint32_t i);
 

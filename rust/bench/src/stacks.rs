@@ -119,17 +119,15 @@ fn files(stacks: &mut Vec<Stack>) {
         kerb::list(&file, &mut text).expect("a long enough output");
     });
     stacks.push(("list, 8,000 records", listing));
-    {
-        let mut book = kerb::Book::open(settings).expect("good settings");
-        let playing = used(|| {
-            book.play(&file).expect("a good file");
-        });
-        stacks.push(("play, 8,000 records", playing));
-        let cells = used(|| {
-            black_box(kerb::pack(black_box(1), UnitCell(2), UnitCell(3)));
-            black_box(kerb::unpack(&file, black_box(7)).expect("a record"));
-            black_box((book.open_slide(), book.slide_ticks(black_box(2))));
-        });
-        stacks.push(("pack, unpack, open slide, slide ticks", cells));
-    }
+    let mut book = kerb::Book::open(settings).expect("good settings");
+    let playing = used(|| {
+        book.play(&file).expect("a good file");
+    });
+    stacks.push(("play, 8,000 records", playing));
+    let cells = used(|| {
+        black_box(kerb::pack(black_box(1), UnitCell(2), UnitCell(3)));
+        black_box(kerb::unpack(&file, black_box(7)).expect("a record"));
+        black_box((book.open_slide(), book.slide_ticks(black_box(2))));
+    });
+    stacks.push(("pack, unpack, open slide, slide ticks", cells));
 }
