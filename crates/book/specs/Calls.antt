@@ -60,7 +60,7 @@ openingOf b log s = openingByNumber (openingNumber s log) b log s
 
 -- ---- link: 1, 6, 3, 4, 5
 
--- for a book in order or not, with this clock, that holds so many links in the link's slide
+-- given whether the book is in order, its clock, and how many links the link's slide holds
 abbrev pub linkNumberIn : (ordered : Bool) (clock : Clock) (held : ℕ) (log : Log) (tick : Tick) (one other : Cell) → Number
 linkNumberIn ordered clock held log tick one other =
     firstOf

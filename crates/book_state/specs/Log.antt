@@ -33,7 +33,7 @@ keep l ls = cond (ltb (l .one) cells && ltb (l .other) cells) (l ∷ ls) ls
 abbrev pub pairAt : (log : Log) (at : ℕ) → Link
 pairAt log at = record { one = getD log at 0; other = getD log (at + 1) 0 }
 
--- so many links from a log place on, in order of arrival
+-- `count` links starting at `at`, in order of arrival
 unfoldable pub linksAt : (log : Log) (at count : ℕ) → List Link
 linksAt log at zero = []
 linksAt log at (suc more) = keep (pairAt log at) (linksAt log (at + 2) more)
@@ -46,7 +46,7 @@ placeLinks counts log half place = linksAt log (startOf (spotOf half place)) (ge
 abbrev pub labelled : (place : Place) (l : Link) → Labelled
 labelled place l = record { label = place; link = l }
 
--- the links of so many places from a place on, in order of arrival, each with its place as label
+-- the links of `count` places starting at `place`, in order of arrival, each with its place as label
 unfoldable pub chunkLinks : (counts : Counts) (log : Log) (half : ℕ) (place : Place) (count : ℕ) → List Labelled
 chunkLinks counts log half place zero = []
 chunkLinks counts log half place (suc more) =

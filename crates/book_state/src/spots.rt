@@ -28,7 +28,7 @@ pub fn stored(clock: Clock, counts: &[u16], slide: u64) -> u16
     if at < counts.len() { counts[at] } else { 0 }
 }
 
-// The first so many places made 0, and no others.
+// The first `count` places made 0, and no others.
 pub fn clear(places: &mut [u16], count: usize)
     requires { ⌜ count ≤ length (now places) ⌝ }
     ensures { λ _. ⌜ now (places .exit) ≡ replicate count 0 ++ drop count (now (places .entry)) ⌝ }

@@ -1,7 +1,7 @@
--- The sizes of a forest, and that hanging a root under one that is as large or larger keeps them right (`merged-grown`).
+-- The sizes of a forest, and that making a root the child of one whose tree is as large or larger keeps them right (`merged-grown`).
 --
--- The sizes of the roots below 2 ^ k add up to 2 ^ k, since a hung root's size goes to its top. So no size is above 2 ^ k.
--- A tree that is hung is at most half of what its top has then, so each step doubles the size.
+-- The sizes of the roots below 2 ^ k add up to 2 ^ k, since a child's size goes to its top. So no size is above 2 ^ k.
+-- A tree that becomes a child has at most half of what its top has then, so each step doubles the size.
 use Prim.Native.Nat.{ℕ, zero, suc, _+_, _*_, _^_, _≤_, _<_}
 use mathlib.Core.Path.{_≡_, refl, sym, _∙_, ap}
 use mathlib.Core.Bool.{cond}
@@ -74,7 +74,7 @@ pub record Root (k : ℕ) (f : Forest) (c : ℕ) : Type 0 where
   pub stays : f .parent c ≡ c
   pub below : c < 2 ^ k
 
--- of two roots, child may hang under top
+-- of two roots, `child` may become a child of `top`
 pub record Merges (k : ℕ) (f : Forest) (child top : ℕ) : Type 0 where
   pub under : Root k f child
   pub over : Root k f top
