@@ -13,6 +13,9 @@ pub mod Keeps
 pub mod KeptByLink
 pub mod KeptByOpening
 pub mod KeptByTime
+pub mod ListedCalls
+pub mod ListedCount
+pub mod ListedGroups
 pub mod Lists
 pub mod Log
 pub mod NumbersAgree
