@@ -103,11 +103,11 @@ module _ {h : History} {s : State} (agrees : Agrees h s) where
   window-spans t =
       same-test _ _
       (λ w.
-        let (p, q) = both-hold (t + 0) k k (t + 0 + windowSlides (s .book .clock)) w in
-        hold-both t k k (t + h .clock .n) (omega arith) (omega (arith, n-is, slide-is)))
+      let (p, q) = both-hold (t + 0) k k (t + 0 + windowSlides (s .book .clock)) w in
+      hold-both t k k (t + h .clock .n) (omega arith) (omega (arith, n-is, slide-is)))
       (λ w.
-        let (p, q) = both-hold t k k (t + h .clock .n) w in
-        hold-both (t + 0) k k (t + 0 + windowSlides (s .book .clock)) (omega arith) (omega (arith, n-is, slide-is)))
+      let (p, q) = both-hold t k k (t + h .clock .n) w in
+      hold-both (t + 0) k k (t + 0 + windowSlides (s .book .clock)) (omega arith) (omega (arith, n-is, slide-is)))
 
   pub count-told : length (windowLinks (s .book .clock) (s .book .counts) (s .log)) ≡ linkCountIn h
   unfolding windowLinks

@@ -191,7 +191,7 @@ pub record Records : Type 0 where
   pub packed : (tick one other : ℕ) → Fits tick one other → (out : Bytes) → 8 ≤ length out →
       recordOf (packedOf tick one other out) 0 ≡ record { tick = tick; one = one; other = other; number = 0 }
   pub played : (tick one other : ℕ) → Fits tick one other → (before rest : Bytes) (i : ℕ) → length before ≡ 8 * i →
-      recordCall (before ++ recordBytes tick one other ++ rest) i ≡ link tick one other
+      recordCall (before ++ (recordBytes tick one other ++ rest)) i ≡ link tick one other
   pub again : (file : Bytes) → ((place : ℕ) → getD file place 0 < 256) → (i : ℕ) → 8 * i + 8 ≤ length file →
       recordBytes (tickAt file i) (oneAt file i) (otherAt file i) ≡ take 8 (drop (8 * i) file)
 
