@@ -12,15 +12,18 @@ use Rattle.graph.specs.Link.{Link, chains}
 use Rattle.graph.specs.Forest.{Labelled}
 use Rattle.graph.proofs.Chains.{Relinks, chained-relink, chains-true, true-chains}
 use Rattle.forest.specs.Arrays.{countFrom}
+use Rattle.numbers.proofs.Checks.{passes}
 use Rattle.book_state.specs.Arrays.{cells}
 use Rattle.window.specs.Window.{windowLinks, linksFromLabel, highest}
 use Rattle.window_groups.specs.Groups.{filter, smallest, groupOf, holdOf, leastHold, leastOver, ofCells, groupsOf}
+use Rattle.window_groups.specs.Call.{groupsByNumber, groupsGiven}
 use Rattle.listing.specs.Lines.{groupLine, linesOf, groupLines}
 use Rattle.promises.specs.History.{History, windowOf}
 use Rattle.promises.specs.Implementation.{State}
-use Rattle.promises.specs.Listed.{groupIn, holdWithin, holdIn, leastHoldIn, groupsIn, groupLineIn}
+use Rattle.promises.specs.Listed.{groupIn, holdWithin, holdIn, leastHoldIn, groupsIn, GroupsTold, groupLineIn}
 use Rattle.promises.proofs.Agrees.{Agrees}
 use Rattle.promises.proofs.Closings.{closed, closed-now}
+use Rattle.promises.proofs.InOrder.{agrees-in-order}
 use Rattle.promises.proofs.Lists.{same-test}
 use Rattle.promises.proofs.ListedCount.{count-told}
 use Rattle.promises.proofs.Window.{book-window, window-book}
@@ -69,15 +72,21 @@ module _ {h : History} {s : State} (agrees : Agrees h s) where
 
   -- ---- what is told of them
 
-  pub groups-told : groupsOf (s .book .clock) (s .book .counts) (s .log) ≡ groupsIn h
+  groups-are : groupsOf (s .book .clock) (s .book .counts) (s .log) ≡ groupsIn h
   unfolding groupsOf
-  groups-told = λ i.
+  groups-are = λ i.
       record {
         first = ofCells (λ c. smallest (group-told c i));
         count = ofCells (λ c. length (group-told c i));
         hold = ofCells (λ c. least-told c i);
         links = count-told agrees i;
       }
+
+  -- the book is in order, and its log has its places
+  pub groups-told : GroupsTold s h
+  unfolding groupsGiven
+  groups-told first size hold =
+      ap₂ (λ number groups. groupsByNumber number groups first size hold) (passes 1 _ (agrees-in-order agrees) ∙ passes 6 _ (agrees .room)) groups-are
 
   pub lines-told : groupLines (s .book .clock .n) held ≡ linesOf (groupLineIn h) (countFrom 0 cells)
   lines-told = λ i. linesOf (λ c. groupLine c (smallest (group-told c i)) (length (group-told c i)) (least-told c i)) (countFrom 0 cells)

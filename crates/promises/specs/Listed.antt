@@ -10,7 +10,7 @@ use mathlib.Core.Logic.{_↔_}
 use mathlib.Core.Option.{some}
 use lib.ListN.{length, getD, take, drop}
 use Rattle.numbers.specs.Kinds.{Bytes, Cell, Number}
-use Rattle.numbers.specs.Checks.{has}
+use Rattle.numbers.specs.Checks.{firstOf, unless, has}
 use Rattle.graph.specs.Link.{Chained, chains}
 use Rattle.settings.specs.Settings.{takenNumber}
 use Rattle.forest.specs.Arrays.{countFrom}
@@ -20,7 +20,8 @@ use Rattle.file.specs.Layout.{recordBytes, tickAt, oneAt, otherAt}
 use Rattle.file_play.specs.Play.{Play, playOf}
 use Rattle.file_play.specs.Record.{packedOf, recordOf}
 use Rattle.window_groups.specs.declared.Groups.{Groups}
-use Rattle.window_groups.specs.Groups.{filter, smallest, leastOver, ofCells, groupsOf}
+use Rattle.window_groups.specs.Groups.{filter, smallest, leastOver, ofCells}
+use Rattle.window_groups.specs.Call.{groupsByNumber, groupsGiven}
 use Rattle.text.specs.Text.{line}
 use Rattle.listing.specs.Lines.{linksWord, refusedFile, refusedRecord, groupLine, linesOf}
 use Rattle.listing.specs.Listing.{windowLine, listingText}
@@ -105,7 +106,7 @@ leastHoldIn h c = leastOver (h .clock .n) (holdIn h) (groupIn h c)
 abbrev pub linkCountIn : (history : History) → ℕ
 linkCountIn h = length (windowOf h)
 
--- what the groups call gives (RULES 8.9)
+-- of each cell its group's smallest cell, number of cells and least hold (RULES 8.9); and the links
 abbrev pub groupsIn : (history : History) → Groups
 groupsIn h =
     record {
@@ -114,6 +115,13 @@ groupsIn h =
       hold = ofCells (leastHoldIn h);
       links = linkCountIn h;
     }
+
+-- what the groups call gives: the number is 6 for an output that is too short, and never 1 (RULES 7.2, 7.8); these groups go to the
+-- fronts of the outputs
+abbrev pub GroupsTold : (state : State) (history : History) → Type 0
+GroupsTold s h =
+    (first size hold : List ℕ) → groupsGiven (s .book) (s .log) first size hold
+    ≡ groupsByNumber (firstOf (unless (has cells first) 6 ∷ unless (has cells size) 6 ∷ unless (has cells hold) 6 ∷ [])) (groupsIn h) first size hold
 
 -- each number is above the one before, the first is `least` or more
 pub data Rising : (least : ℕ) (numbers : List ℕ) → Type 0 where
@@ -224,7 +232,7 @@ exampleText =
 
 pub record Listed : Type 0 where
   pub plays : (file : Bytes) → AfterCalls ours λ s h. Plays file s h (playOf file (s .book) (s .log))
-  pub groups : AfterCalls ours λ s h. groupsOf (s .book .clock) (s .book .counts) (s .log) ≡ groupsIn h
+  pub groups : AfterCalls ours GroupsTold
   pub means : AfterCalls ours λ s h. (c : ℕ) → c < cells → GroupMeans s h c
   pub prints : (file : Bytes) → Prints file
   pub records : Records
