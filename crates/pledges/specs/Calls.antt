@@ -1,26 +1,26 @@
 -- The exported calls as the kit hands them out: nothing of a contract is quoted here. For each function F of a crate the kit generates
 -- `Rattle.CRATE.proofs.F` with its signature, its clauses, its routine and the theorem that the routine meets the clauses.
 use Rattle.kerb.proofs.kerb_book_size
-use Rattle.kerb.proofs.kerb_chain
-use Rattle.kerb.proofs.kerb_clock
-use Rattle.kerb.proofs.kerb_groups
-use Rattle.kerb.proofs.kerb_joined
-use Rattle.kerb.proofs.kerb_link
-use Rattle.kerb.proofs.kerb_list
 use Rattle.kerb.proofs.kerb_lorry_cell
 use Rattle.kerb.proofs.kerb_never_opened
-use Rattle.kerb.proofs.kerb_open_slide
-use Rattle.kerb.proofs.kerb_opening
 use Rattle.kerb.proofs.kerb_pack
-use Rattle.kerb.proofs.kerb_play
-use Rattle.kerb.proofs.kerb_read
 use Rattle.kerb.proofs.kerb_ring
 use Rattle.kerb.proofs.kerb_sector
-use Rattle.kerb.proofs.kerb_slide_ticks
 use Rattle.kerb.proofs.kerb_unit_cell
 use Rattle.kerb.proofs.kerb_unpack
 use Rattle.kerb.proofs.kerb_version_2
-use Rattle.kerb.proofs.kerb_write
+use Rattle.kerb_ask.proofs.kerb_chain
+use Rattle.kerb_ask.proofs.kerb_groups
+use Rattle.kerb_ask.proofs.kerb_joined
+use Rattle.kerb_ask.proofs.kerb_open_slide
+use Rattle.kerb_ask.proofs.kerb_slide_ticks
+use Rattle.kerb_change.proofs.kerb_clock
+use Rattle.kerb_change.proofs.kerb_link
+use Rattle.kerb_change.proofs.kerb_opening
+use Rattle.kerb_change.proofs.kerb_play
+use Rattle.kerb_file.proofs.kerb_list
+use Rattle.kerb_file.proofs.kerb_read
+use Rattle.kerb_file.proofs.kerb_write
 use Rattle.pledges.specs.Exported.{Exported}
 
 abbrev pub neverOpenedCall : Exported
