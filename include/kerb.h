@@ -263,8 +263,9 @@ KERB_AT(kerb_slide_answer, exists, 8);
  * from the one to the other. `log_places` is the number of 16-bit places of the log, at least KERB_LOG_PLACES.
  */
 
-/* A book that was never opened: 0 in every byte. Every call but opening gives 1 for it. Stack: 1 KB,
-   and 9.3 KB more where the compiler copies the book. */
+/* A book that was never opened: 0 in every byte. kerb_link, kerb_clock, kerb_joined, kerb_chain and kerb_groups give 1 for it,
+   and so does kerb_play at the first record of a file that the reader takes; its open slide is 0. Stack: 1 KB, and 9.3 KB more
+   where the compiler copies the book. */
 KERB_LOOK_AT struct kerb_book kerb_never_opened(void);
 
 /*

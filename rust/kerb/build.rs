@@ -1,4 +1,4 @@
-//! Links the static library that `rt staticlib kerb` writes.
+//! Links the static library that `tools/archive` makes.
 
 use std::path::Path;
 
@@ -8,7 +8,7 @@ fn main() {
     let archive = folder.join("libkerb.a");
     println!("cargo:rerun-if-changed={}", archive.display());
     if !archive.exists() {
-        println!("cargo:warning=the static library is missing: run `rt staticlib kerb` in the repository's folder");
+        println!("cargo:warning=the static library is missing: run `tools/archive` in the repository's folder");
         std::process::exit(1);
     }
     println!("cargo:rustc-link-search=native={}", folder.display());

@@ -89,7 +89,7 @@ link-room b log tick one other e =
     spot-then : openSpot (movedBook b log tick .clock) ≡ spotThen b tick
     spot-then = rw (moved-clock b log tick, moved-slide (b .clock) tick (t .later), moved-place (b .clock) tick, moved-n (b .clock) tick)
 
--- ---- a book that was never opened: every call but opening gives 1 for it
+-- ---- a book that was never opened: link and clock give 1 for it
 
 pub never-link : (log : List ℕ) (tick one other : ℕ) → linkNumber neverOpened log tick one other ≡ 1
 unfolding linkNumber

@@ -28,7 +28,7 @@ pub struct Book {
     pub fitting: cells::Fitting,
 }
 
-// A book that was never opened: every call but opening gives 1 for it.
+// A book that was never opened: it is not in order (RULES 7.8).
 pub fn never_opened() -> Book
     ensures { λ r. ⌜ r ≡ neverOpened ⌝ }
 {

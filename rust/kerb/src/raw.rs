@@ -20,7 +20,7 @@ use crate::{Chain, Joined, LorryCell, Refusal, Settings, UnitCell};
 /// # Ok::<(), Refusal>(())
 /// ```
 impl RawBook {
-    /// A book that was never opened: every call but opening refuses it.
+    /// A book that was never opened: the calls that ask whether a book is in order refuse it.
     pub fn never_opened() -> RawBook {
         calls::never_opened()
     }

@@ -1,4 +1,4 @@
--- `kerb::kerb_play` meets its contract: a walk of its MIR, by hand. The borrow is opened and the struct is taken apart into its fields; 2 of them are loaded, 6 are lent to `file_play::play_file` where they stand and come back at the last values that it ensures, 2 are stored to; the struct is put together, and the borrow is closed at it.
+-- `kerb_change::kerb_play` meets its contract: a walk of its MIR, by hand. The borrow is opened and the struct is taken apart into its fields; 2 of them are loaded, 6 are lent to `file_play::play_file` where they stand and come back at the last values that it ensures, 2 are stored to; the struct is put together, and the borrow is closed at it.
 -- All that the proof knows of `file_play::play_file` is that it meets its contract.
 -- Written by tools/walk.py.
 use mathlib.Core.Path.{_≡_, refl, sym, ap}
@@ -60,15 +60,15 @@ use Rattle.file_play.proofs.PlayedFields as T3
 use Rattle.file_play.proofs.PlayedFields.Laws as T3′
 use Rattle.file_play.proofs.PlayAnswer as T4
 use Rattle.file_play.proofs.PlayAnswer.Laws as T4′
-use Rattle.kerb.proofs.Apart.{Ones, parts, Way, apart, together, packs, unpacks, field-out}
+use Rattle.kerb_walk.proofs.Apart.{Ones, parts, Way, apart, together, packs, unpacks, field-out}
 use Rattle.file_play.proofs.play_file as g
 use Rattle.file_play.proofs.play_file.Symbol as g-def
 use Rattle.file_play.proofs.play_file.Symbol.{name as #file_play·play-file}
 use Rattle.file_play.proofs.play_file.Met as g-thm
-use Rattle.kerb.proofs.kerb_play.Key.{name as #kerb·kerb-play}
-use Rattle.kerb.proofs.kerb_play as f
-use Rattle.kerb.proofs.kerb_play.Statement as stated
-use Rattle.kerb.proofs.kerb_play.Code as code
+use Rattle.kerb_change.proofs.kerb_play.Key.{name as #kerb_change·kerb-play}
+use Rattle.kerb_change.proofs.kerb_play as f
+use Rattle.kerb_change.proofs.kerb_play.Statement as stated
+use Rattle.kerb_change.proofs.kerb_play.Code as code
 
 abbrev stayed : Stays (f.ended .signature .params) (f.ended .kept)
 stayed = (stay-ref (0 ∷ []) tt (plain (λ _. T.the-row)), (gave-slice (1 ∷ []) tt (plain (λ _. u16)), (stay-none-slice (2 ∷ []) tt (plain (λ _. u8)) yes, tt)))
@@ -237,6 +237,6 @@ pub kerb-play-spec : {M : Type 1} → stated.statement M
 unfolding code.routine tablesOf
 kerb-play-spec 𝓤 H 𝓜 𝓖 𝓡 =
     entered 𝓤 H (tripleOf 𝓤 H (𝓖 .A) f.signature (f.spec 𝓤 H (𝓖 .A) (𝓜 .mem) (𝓡 .run)))
-    (tables 𝓤 H 𝓜 𝓡 code.env .C) (tables 𝓤 H 𝓜 𝓡 code.env .Λ) #kerb·kerb-play code.function (code.unfolded 𝓤 H 𝓜 𝓡)
+    (tables 𝓤 H 𝓜 𝓡 code.env .C) (tables 𝓤 H 𝓜 𝓡 code.env .Λ) #kerb_change·kerb-play code.function (code.unfolded 𝓤 H 𝓜 𝓡)
     (kerb-play-meets 𝓤 H (𝓖 .A) (givenOf 𝓤 H 𝓜 𝓖) (𝓜 .mem) (𝓡 .run) (tablesOf 𝓤 H 𝓜 (tables 𝓤 H 𝓜 𝓡 code.env))
     (cited 𝓤 H (Callee 𝓤 H (𝓖 .A) (𝓜 .mem) (𝓡 .run)) 𝓜 𝓡 code.env #file_play·play-file g-def.routine code.calls-file-play·play-file (g-thm.met 𝓤 H 𝓜 𝓖 𝓡)))

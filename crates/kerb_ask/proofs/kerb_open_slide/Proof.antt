@@ -1,4 +1,4 @@
--- `kerb::kerb_open_slide` meets its contract: a walk of its MIR, by hand. The borrow is opened and the struct is taken apart into its fields; 1 of them are loaded, 0 are lent to `slides::open_slide` where they stand and come back at the last values that it ensures; the struct is put together, and the borrow is closed at it.
+-- `kerb_ask::kerb_open_slide` meets its contract: a walk of its MIR, by hand. The borrow is opened and the struct is taken apart into its fields; 1 of them are loaded, 0 are lent to `slides::open_slide` where they stand and come back at the last values that it ensures; the struct is put together, and the borrow is closed at it.
 -- All that the proof knows of `slides::open_slide` is that it meets its contract.
 -- Written by tools/walk.py.
 use mathlib.Core.Path.{_≡_, refl, sym, ap}
@@ -51,15 +51,15 @@ use Rattle.book_state.proofs.Book as T
 use Rattle.book_state.proofs.Book.Laws as T′
 use Rattle.slides.proofs.Clock as T1
 use Rattle.slides.proofs.Clock.Laws as T1′
-use Rattle.kerb.proofs.Apart.{Ones, parts, Way, apart, together, packs, unpacks, field-out}
+use Rattle.kerb_walk.proofs.Apart.{Ones, parts, Way, apart, together, packs, unpacks, field-out}
 use Rattle.slides.proofs.open_slide as g
 use Rattle.slides.proofs.open_slide.Symbol as g-def
 use Rattle.slides.proofs.open_slide.Symbol.{name as #slides·open-slide}
 use Rattle.slides.proofs.open_slide.Met as g-thm
-use Rattle.kerb.proofs.kerb_open_slide.Key.{name as #kerb·kerb-open-slide}
-use Rattle.kerb.proofs.kerb_open_slide as f
-use Rattle.kerb.proofs.kerb_open_slide.Statement as stated
-use Rattle.kerb.proofs.kerb_open_slide.Code as code
+use Rattle.kerb_ask.proofs.kerb_open_slide.Key.{name as #kerb_ask·kerb-open-slide}
+use Rattle.kerb_ask.proofs.kerb_open_slide as f
+use Rattle.kerb_ask.proofs.kerb_open_slide.Statement as stated
+use Rattle.kerb_ask.proofs.kerb_open_slide.Code as code
 
 abbrev stayed : Stays (f.ended .signature .params) (f.ended .kept)
 stayed = (stay-none-ref (0 ∷ []) tt (plain (λ _. T.the-row)) yes, tt)
@@ -154,6 +154,6 @@ pub kerb-open-slide-spec : {M : Type 1} → stated.statement M
 unfolding code.routine tablesOf
 kerb-open-slide-spec 𝓤 H 𝓜 𝓖 𝓡 =
     entered 𝓤 H (tripleOf 𝓤 H (𝓖 .A) f.signature (f.spec 𝓤 H (𝓖 .A) (𝓜 .mem) (𝓡 .run)))
-    (tables 𝓤 H 𝓜 𝓡 code.env .C) (tables 𝓤 H 𝓜 𝓡 code.env .Λ) #kerb·kerb-open-slide code.function (code.unfolded 𝓤 H 𝓜 𝓡)
+    (tables 𝓤 H 𝓜 𝓡 code.env .C) (tables 𝓤 H 𝓜 𝓡 code.env .Λ) #kerb_ask·kerb-open-slide code.function (code.unfolded 𝓤 H 𝓜 𝓡)
     (kerb-open-slide-meets 𝓤 H (𝓖 .A) (givenOf 𝓤 H 𝓜 𝓖) (𝓜 .mem) (𝓡 .run) (tablesOf 𝓤 H 𝓜 (tables 𝓤 H 𝓜 𝓡 code.env))
     (cited 𝓤 H (Callee 𝓤 H (𝓖 .A) (𝓜 .mem) (𝓡 .run)) 𝓜 𝓡 code.env #slides·open-slide g-def.routine code.calls-slides·open-slide (g-thm.met 𝓤 H 𝓜 𝓖 𝓡)))
