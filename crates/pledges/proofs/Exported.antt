@@ -36,20 +36,22 @@ module _ (f : Exported) (definition : Definition f) where
         (fact-mono (w .𝓤) (s ≡ definition κs a) (r ≡ s) (λ q. p ∙ sym q))))
 
     -- the code meets every demand that the definition meets
-    pub code-meets : (demand : Claim f) →
-        ((κs : Lifetimes f) (a : Given f κs) → Of demand κs a (definition κs a)) → CodeMeets f demand
-    code-meets demand holds M 𝓤 H 𝓜 𝓖 𝓡 =
-        let w : World = record { M = M; 𝓤 = 𝓤; H = H; 𝓜 = 𝓜; 𝓖 = 𝓖; 𝓡 = 𝓡 } in
-        weaken-under 𝓤 H (𝓖 .A) (f .ended) (givenOf 𝓤 H 𝓜 𝓖) (contractAt f w)
-        (λ κs a. record { ghost = Unit {0}; requires = λ g. emp 𝓤; ensures = λ g r e. fact 𝓤 (demand κs a r e) })
-        (λ κs a g. exactly w κs a .ghost) (λ κs a g. Unit {0}) (λ κs a g. factI 𝓤 (Unit {0}) (emp 𝓤) tt)
-        (λ κs a g _. exactly w κs a .unasked)
-        (λ κs a g _ r ws. monoR 𝓤 (sem 𝓤 H (𝓖 .A) (lasts (f .ended) κs a ws))
-        (via 𝓤 (fact 𝓤 (_≡_ {A = Result f κs a} (r, ws) (definition κs a))) (exactly w κs a .only (exactly w κs a .ghost) (r, ws))
-        (fact-mono 𝓤 _ (demand κs a r (atExit (f .ended) κs a ws)) (λ e. subst⁻¹ (λ t. Of demand κs a t) e (holds κs a)))))
-        (𝓡 .run (f .routine)) (routine-mono 𝓤 H 𝓜 𝓡 (f .routine)) (f .met M 𝓤 H 𝓜 𝓖 𝓡)
+    code-meets : (demand : Claim f) → ((κs : Lifetimes f) (a : Given f κs) → Of demand κs a (definition κs a)) → CodeMeets f demand
+    code-meets demand holds =
+        record {
+          meets = λ M 𝓤 H 𝓜 𝓖 𝓡.
+              let w : World = record { M = M; 𝓤 = 𝓤; H = H; 𝓜 = 𝓜; 𝓖 = 𝓖; 𝓡 = 𝓡 } in
+              weaken-under 𝓤 H (𝓖 .A) (f .ended) (givenOf 𝓤 H 𝓜 𝓖) (contractAt f w)
+              (λ κs a. record { ghost = Unit {0}; requires = λ g. emp 𝓤; ensures = λ g r e. fact 𝓤 (demand κs a r e) })
+              (λ κs a g. exactly w κs a .ghost) (λ κs a g. Unit {0}) (λ κs a g. factI 𝓤 (Unit {0}) (emp 𝓤) tt)
+              (λ κs a g _. exactly w κs a .unasked)
+              (λ κs a g _ r ws. monoR 𝓤 (sem 𝓤 H (𝓖 .A) (lasts (f .ended) κs a ws))
+              (via 𝓤 (fact 𝓤 (_≡_ {A = Result f κs a} (r, ws) (definition κs a))) (exactly w κs a .only (exactly w κs a .ghost) (r, ws))
+              (fact-mono 𝓤 _ (demand κs a r (atExit (f .ended) κs a ws)) (λ e. subst⁻¹ (λ t. Of demand κs a t) e (holds κs a)))))
+              (𝓡 .run (f .routine)) (routine-mono 𝓤 H 𝓜 𝓡 (f .routine)) (f .met M 𝓤 H 𝓜 𝓖 𝓡);
+        }
 
-    pub pledge : Pledged f definition
+    pledge : Pledged f definition
     pledge = record { exactly = exactly; single = single-result; code = code-meets (Gives f definition) (λ κs a. (refl, refl)) }
 
   -- ---- the two forms of our contracts
@@ -97,3 +99,9 @@ module _ (f : Exported) (definition : Definition f) where
             (λ p. via (w .𝓤) (fact (w .𝓤) (Of Q κs a r)) (snd∗ (w .𝓤) (fact (w .𝓤) (Of P κs a r)) (fact (w .𝓤) (Of Q κs a r)))
             (fact-mono (w .𝓤) (Of Q κs a r) (r ≡ definition κs a) (only κs a r p)));
       })
+
+-- ---- for whoever has a pledge
+
+pub demanded : {f : Exported} {definition : Definition f} {demand : Claim f} → Pledged f definition →
+    ((κs : Lifetimes f) (a : Given f κs) → demand κs a (definition κs a .0) (atExit (f .ended) κs a (definition κs a .1))) → CodeMeets f demand
+demanded {f} {definition} {demand} p holds = code-meets f definition (p .exactly) demand holds

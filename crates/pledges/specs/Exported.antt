@@ -88,10 +88,9 @@ module _ (f : Exported) where
       ent (w .𝓤) (sep (w .𝓤) (allows w κs a (contractAt w κs a) g r) (allows w κs a (contractAt w κs a) g s)) (fact (w .𝓤) (r ≡ s))
 
   -- the code itself, called with anything at all, meets a demand
-  abbrev pub CodeMeets : (demand : Claim) → Type 2
-  CodeMeets demand =
-      RoutineMeets (f .ended) (f .routine) λ M 𝓤 H A mem run κs a.
-      record { ghost = Unit {0}; requires = λ g. emp 𝓤; ensures = λ g r e. fact 𝓤 (demand κs a r e) }
+  pub record CodeMeets (demand : Claim) : Type 2 where
+    pub meets : RoutineMeets (f .ended) (f .routine) λ M 𝓤 H A mem run κs a.
+        record { ghost = Unit {0}; requires = λ g. emp 𝓤; ensures = λ g r e. fact 𝓤 (demand κs a r e) }
 
   -- what is returned and what is left are the definition's
   abbrev pub Gives : Definition → Claim

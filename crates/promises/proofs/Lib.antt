@@ -1,4 +1,3 @@
-pub mod Agrees
 pub mod BySlide
 pub mod ChainIs
 pub mod ChunkEnds
@@ -15,8 +14,12 @@ pub mod KeptByOpening
 pub mod KeptByTime
 pub mod Lists
 pub mod Log
+pub mod NeverOpened
+pub mod NoEight
 pub mod NumbersAgree
+pub mod Promise
 pub mod Refused
+pub mod Routines
 pub mod Single
 pub mod Split
 pub mod Spots

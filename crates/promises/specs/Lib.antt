@@ -1,7 +1,10 @@
+pub mod Agrees
 pub mod Cases
 pub mod Demands
 pub mod Fakes
 pub mod History
 pub mod Implementation
+pub mod Promise
+pub mod Routines
 pub mod Single
 pub mod WindowIs
