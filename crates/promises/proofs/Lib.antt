@@ -20,7 +20,6 @@ pub mod NumbersAgree
 pub mod Promise
 pub mod Refused
 pub mod Routines
-pub mod Single
 pub mod Split
 pub mod Spots
 pub mod Steps

@@ -10,7 +10,7 @@ use Rattle.promises.proofs.Keeps.{keeps}
 use Rattle.promises.proofs.NeverOpened.{never-opened}
 use Rattle.promises.proofs.Refused.{refused}
 use Rattle.promises.proofs.Routines.{code-refuses, code-table, code-joined, code-files, code-chain}
-use Rattle.promises.proofs.Single.{single}
+use Rattle.pledges.proofs.Single.{single}
 use Rattle.promises.proofs.Table.{table}
 
 pub kept : Kept

@@ -6,5 +6,4 @@ pub mod History
 pub mod Implementation
 pub mod Promise
 pub mod Routines
-pub mod Single
 pub mod WindowIs

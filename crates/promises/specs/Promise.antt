@@ -13,7 +13,7 @@ use Rattle.promises.specs.Agrees.{Agrees}
 use Rattle.promises.specs.Demands.{AfterCalls, Table, Refused, FilesRefused, NeverOpened, Joined, Files, Chain}
 use Rattle.promises.specs.Routines.{CodeRefuses, CodeTable, CodeJoined, CodeFiles, CodeChain}
 use Rattle.promises.specs.Cases.{Cases}
-use Rattle.promises.specs.Single.{Single}
+use Rattle.pledges.specs.Single.{Single}
 
 -- Every call ends and stays inside its memory for all inputs: bad settings, cells, ticks, files, short buffers, altered books. A refused
 -- call gives the number in the table and alters nothing lent to it.
