@@ -3,16 +3,16 @@
 -- A contract that is one claim (or two), the same at every model, allows a result exactly where the claim holds of it; so it is enough
 -- to show that the claim holds of the definition's result and of no other. Where a contract allows one result alone, two that it
 -- allows are equal; and since the code meets its contract, it meets every demand that the definition meets, by the rule of consequence.
-use mathlib.Core.Path.{_≡_, refl, sym, subst⁻¹, _∙_}
+use mathlib.Core.Path.{_≡_, refl, sym, subst, subst⁻¹, _∙_}
 use base.Logic.{ent, sep, emp, id⊢, via, mono∗, monoR, fst∗, snd∗, emp∗}
 use ghost.Atoms.{sem}
 use contract.Monad.{fact, factI, fact-mono, fact-use}
 use contract.Running.{givenOf}
 use denote.Ask.Run.{routine-mono}
-use denote.Triple.Clauses.{atExit, lasts}
+use denote.Triple.Clauses.{Lasts, atExit, lasts}
 use denote.Triple.Weaken.{weaken-under}
 use borrow.Fn.World.{World}
-use Rattle.pledges.specs.Exported.{Exported, Lifetimes, Given, Claim, Result, Definition, contractAt, allows, Exactly, Pledged, Single, CodeMeets, Gives}
+use Rattle.pledges.specs.Exported.{Exported, Lifetimes, Given, Returned, Left, Claim, Result, Definition, contractAt, allows, Exactly, Pledged, SingleResult, CodeMeets, Gives}
 
 module _ (f : Exported) (definition : Definition f) where
   abbrev AllExactly : Type 2
@@ -26,7 +26,7 @@ module _ (f : Exported) (definition : Definition f) where
 
   module _ (exactly : AllExactly) where
     -- two results that the contract allows are equal
-    single-result : Single f
+    single-result : SingleResult f
     single-result w κs a g r s =
         let P = allows f w κs a (contractAt f w κs a) g r in
         let Q = allows f w κs a (contractAt f w κs a) g s in
@@ -36,20 +36,22 @@ module _ (f : Exported) (definition : Definition f) where
         (fact-mono (w .𝓤) (s ≡ definition κs a) (r ≡ s) (λ q. p ∙ sym q))))
 
     -- the code meets every demand that the definition meets
-    pub code-meets : (demand : Claim f) →
-        ((κs : Lifetimes f) (a : Given f κs) → Of demand κs a (definition κs a)) → CodeMeets f demand
-    code-meets demand holds M 𝓤 H 𝓜 𝓖 𝓡 =
-        let w : World = record { M = M; 𝓤 = 𝓤; H = H; 𝓜 = 𝓜; 𝓖 = 𝓖; 𝓡 = 𝓡 } in
-        weaken-under 𝓤 H (𝓖 .A) (f .ended) (givenOf 𝓤 H 𝓜 𝓖) (contractAt f w)
-        (λ κs a. record { ghost = Unit {0}; requires = λ g. emp 𝓤; ensures = λ g r e. fact 𝓤 (demand κs a r e) })
-        (λ κs a g. exactly w κs a .ghost) (λ κs a g. Unit {0}) (λ κs a g. factI 𝓤 (Unit {0}) (emp 𝓤) tt)
-        (λ κs a g _. exactly w κs a .unasked)
-        (λ κs a g _ r ws. monoR 𝓤 (sem 𝓤 H (𝓖 .A) (lasts (f .ended) κs a ws))
-        (via 𝓤 (fact 𝓤 (_≡_ {A = Result f κs a} (r, ws) (definition κs a))) (exactly w κs a .only (exactly w κs a .ghost) (r, ws))
-        (fact-mono 𝓤 _ (demand κs a r (atExit (f .ended) κs a ws)) (λ e. subst⁻¹ (λ t. Of demand κs a t) e (holds κs a)))))
-        (𝓡 .run (f .routine)) (routine-mono 𝓤 H 𝓜 𝓡 (f .routine)) (f .met M 𝓤 H 𝓜 𝓖 𝓡)
+    code-meets : (demand : Claim f) → ((κs : Lifetimes f) (a : Given f κs) → Of demand κs a (definition κs a)) → CodeMeets f demand
+    code-meets demand holds =
+        record {
+          meets = λ M 𝓤 H 𝓜 𝓖 𝓡.
+              let w : World = record { M = M; 𝓤 = 𝓤; H = H; 𝓜 = 𝓜; 𝓖 = 𝓖; 𝓡 = 𝓡 } in
+              weaken-under 𝓤 H (𝓖 .A) (f .ended) (givenOf 𝓤 H 𝓜 𝓖) (contractAt f w)
+              (λ κs a. record { ghost = Unit {0}; requires = λ g. emp 𝓤; ensures = λ g r e. fact 𝓤 (demand κs a r e) })
+              (λ κs a g. exactly w κs a .ghost) (λ κs a g. Unit {0}) (λ κs a g. factI 𝓤 (Unit {0}) (emp 𝓤) tt)
+              (λ κs a g _. exactly w κs a .unasked)
+              (λ κs a g _ r ws. monoR 𝓤 (sem 𝓤 H (𝓖 .A) (lasts (f .ended) κs a ws))
+              (via 𝓤 (fact 𝓤 (_≡_ {A = Result f κs a} (r, ws) (definition κs a))) (exactly w κs a .only (exactly w κs a .ghost) (r, ws))
+              (fact-mono 𝓤 _ (demand κs a r (atExit (f .ended) κs a ws)) (λ e. subst⁻¹ (λ t. Of demand κs a t) e (holds κs a)))))
+              (𝓡 .run (f .routine)) (routine-mono 𝓤 H 𝓜 𝓡 (f .routine)) (f .met M 𝓤 H 𝓜 𝓖 𝓡);
+        }
 
-    pub pledge : Pledged f definition
+    pledge : Pledged f definition
     pledge = record { exactly = exactly; single = single-result; code = code-meets (Gives f definition) (λ κs a. (refl, refl)) }
 
   -- ---- the two forms of our contracts
@@ -97,3 +99,26 @@ module _ (f : Exported) (definition : Definition f) where
             (λ p. via (w .𝓤) (fact (w .𝓤) (Of Q κs a r)) (snd∗ (w .𝓤) (fact (w .𝓤) (Of P κs a r)) (fact (w .𝓤) (Of Q κs a r)))
             (fact-mono (w .𝓤) (Of Q κs a r) (r ≡ definition κs a) (only κs a r p)));
       })
+
+-- ---- a contract that makes one claim, whatever it asks
+
+pub single-claim : (f : Exported) {P : Claim f} →
+    ((w : World) (κs : Lifetimes f) (a : Given f κs) (g : contractAt f w κs a .ghost) (r : Returned f κs) (e : Left f κs) →
+    contractAt f w κs a .ensures g r e ≡ fact (w .𝓤) (P κs a r e)) →
+    ((κs : Lifetimes f) (a : Given f κs) (r s : Result f κs a) → P κs a (r .0) (atExit (f .ended) κs a (r .1)) →
+    P κs a (s .0) (atExit (f .ended) κs a (s .1)) → r ≡ s) → SingleResult f
+single-claim f {P} reads one w κs a g r s =
+    let A = allows f w κs a (contractAt f w κs a) g r in
+    let B = allows f w κs a (contractAt f w κs a) g s in
+    let left : Lasts (f .ended) κs a → Left f κs = atExit (f .ended) κs a in
+    fact-use (w .𝓤) (P κs a (r .0) (left (r .1)))
+    (subst (λ C. ent (w .𝓤) (sep (w .𝓤) A B) C) (reads w κs a g (r .0) (left (r .1))) (fst∗ (w .𝓤) A B))
+    (λ p. via (w .𝓤) (fact (w .𝓤) (P κs a (s .0) (left (s .1))))
+    (subst (λ C. ent (w .𝓤) (sep (w .𝓤) A B) C) (reads w κs a g (s .0) (left (s .1))) (snd∗ (w .𝓤) A B))
+    (fact-mono (w .𝓤) (P κs a (s .0) (left (s .1))) (r ≡ s) (one κs a r s p)))
+
+-- ---- for whoever has a pledge
+
+pub demanded : {f : Exported} {definition : Definition f} {demand : Claim f} → Pledged f definition →
+    ((κs : Lifetimes f) (a : Given f κs) → demand κs a (definition κs a .0) (atExit (f .ended) κs a (definition κs a .1))) → CodeMeets f demand
+demanded {f} {definition} {demand} p holds = code-meets f definition (p .exactly) demand holds

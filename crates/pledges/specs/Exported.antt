@@ -82,16 +82,15 @@ module _ (f : Exported) where
       pub only : (g : c .ghost) (r : Result κs a) → ent (w .𝓤) (allows c g r) (fact (w .𝓤) (r ≡ result))
 
   -- two results that the contract allows are equal, lent memory included (RULES 10.1, 10.2)
-  abbrev pub Single : Type 2
-  Single =
+  abbrev pub SingleResult : Type 2
+  SingleResult =
       (w : World) (κs : Lifetimes) (a : Given κs) (g : contractAt w κs a .ghost) (r s : Result κs a) →
       ent (w .𝓤) (sep (w .𝓤) (allows w κs a (contractAt w κs a) g r) (allows w κs a (contractAt w κs a) g s)) (fact (w .𝓤) (r ≡ s))
 
   -- the code itself, called with anything at all, meets a demand
-  abbrev pub CodeMeets : (demand : Claim) → Type 2
-  CodeMeets demand =
-      RoutineMeets (f .ended) (f .routine) λ M 𝓤 H A mem run κs a.
-      record { ghost = Unit {0}; requires = λ g. emp 𝓤; ensures = λ g r e. fact 𝓤 (demand κs a r e) }
+  pub record CodeMeets (demand : Claim) : Type 2 where
+    pub meets : RoutineMeets (f .ended) (f .routine) λ M 𝓤 H A mem run κs a.
+        record { ghost = Unit {0}; requires = λ g. emp 𝓤; ensures = λ g r e. fact 𝓤 (demand κs a r e) }
 
   -- what is returned and what is left are the definition's
   abbrev pub Gives : Definition → Claim
@@ -100,5 +99,5 @@ module _ (f : Exported) where
   -- the function gives for every input what the definition says
   pub record Pledged (definition : Definition) : Type 2 where
     pub exactly : (w : World) (κs : Lifetimes) (a : Given κs) → Exactly w κs a (contractAt w κs a) (definition κs a)
-    pub single : Single
+    pub single : SingleResult
     pub code : CodeMeets (Gives definition)

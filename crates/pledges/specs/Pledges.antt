@@ -48,19 +48,19 @@ abbrev pub kept : Unit {0}
 kept = tt
 
 -- the arguments by name
-abbrev with1 : {A X : Type 0} → A × Unit {0} → (A → X) → X
+abbrev pub with1 {κ} : {A : Type 0} {X : Type κ} → A × Unit {0} → (A → X) → X
 with1 a f = f (a .0)
 
-abbrev with2 : {A B X : Type 0} → A × (B × Unit {0}) → (A → B → X) → X
+abbrev pub with2 {κ} : {A B : Type 0} {X : Type κ} → A × (B × Unit {0}) → (A → B → X) → X
 with2 a f = with1 (a .1) (f (a .0))
 
-abbrev with3 : {A B C X : Type 0} → A × (B × (C × Unit {0})) → (A → B → C → X) → X
+abbrev pub with3 {κ} : {A B C : Type 0} {X : Type κ} → A × (B × (C × Unit {0})) → (A → B → C → X) → X
 with3 a f = with2 (a .1) (f (a .0))
 
-abbrev with4 : {A B C D X : Type 0} → A × (B × (C × (D × Unit {0}))) → (A → B → C → D → X) → X
+abbrev pub with4 {κ} : {A B C D : Type 0} {X : Type κ} → A × (B × (C × (D × Unit {0}))) → (A → B → C → D → X) → X
 with4 a f = with3 (a .1) (f (a .0))
 
-abbrev with5 : {A B C D E X : Type 0} → A × (B × (C × (D × (E × Unit {0})))) → (A → B → C → D → E → X) → X
+abbrev pub with5 {κ} : {A B C D E : Type 0} {X : Type κ} → A × (B × (C × (D × (E × Unit {0})))) → (A → B → C → D → E → X) → X
 with5 a f = with4 (a .1) (f (a .0))
 
 pub record Pledges : Type 2 where

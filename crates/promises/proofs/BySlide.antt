@@ -14,7 +14,7 @@ use Rattle.graph.specs.Forest.{Labelled, atLeast, Each, also, NeverRise, lowest
 use Rattle.graph.proofs.Chains.{Relinks, linked-left, linked-append-cases}
 use Rattle.graph.proofs.Cut.{each-map}
 use Rattle.promises.specs.History.{Stored, ofSlides, slideLinks, linksOf}
-use Rattle.promises.proofs.Agrees.{Falling, none, next}
+use Rattle.promises.specs.Agrees.{Falling, none, next}
 use Rattle.promises.proofs.Lists.{map-onto}
 
 -- ---- picked by slide

@@ -3,11 +3,10 @@
 -- Let j be the largest label such that the window's links with label j or more chain the two. Links with label c + 1 or more are
 -- those of the window c closings later (Window). So two different cells are chained c closings later exactly when c < j, and the hold
 -- is j - 1. The last window that chains them has the links of slides L to k, with L + n = k + j; it does not start before slide 0,
--- since otherwise one closing more would lose no link. A best trail over cells below 1,024 has at most 1,024 of them (the crate
--- graph), so number 8 never comes.
+-- since otherwise one closing more would lose no link. Number 8 comes from no book at all (NoEight).
 use Prim.Native.Nat.{ℕ, suc, _+_, _-_, _≤_, _<_, zero-le}
 use mathlib.Core.Path.{_≡_, refl, sym, _∙_, ap, subst, subst⁻¹}
-use mathlib.Core.Bool.{Bool, true, false, and-eq-true-iff}
+use mathlib.Core.Bool.{Bool, true, false}
 use mathlib.Core.List.{List, [], _∷_, _++_}
 use mathlib.Core.Logic.{_↔_}
 use native.Mathlib.Omega.{arith}
@@ -16,16 +15,14 @@ use native.Mathlib.Decide.{decLe, ℕ-discrete}
 use lib.Dec.{ltb}
 use lib.ListN.{length, take, drop}
 use lib.Seq.{take-append-seam, drop-append-seam}
-use borrow.Author.Tests.{le-leb, lt-ltb, ltb-true}
+use borrow.Author.Tests.{lt-ltb, ltb-true}
 use Rattle.graph.specs.Link.{Chained, same, chains}
 use Rattle.graph.specs.Forest.{Labelled}
 use Rattle.graph.specs.Trail.{Best}
 use Rattle.graph.proofs.Chains.{Relinks, chained-relink, chained-alone, chains-true, true-chains, chains-false}
 use Rattle.graph.proofs.Trails.{best-same, best-relink}
 use Rattle.graph.proofs.Finder.{trailOf-best, best-trailOf}
-use Rattle.graph.proofs.Distinct.{best-few}
 use Rattle.slides.specs.Clock.{notBefore, slideOf}
-use Rattle.book_state.specs.Arrays.{cells}
 use Rattle.numbers.specs.Checks.{firstOf, unless, has}
 use Rattle.book_state.specs.Numbers.{areCells}
 use Rattle.book_joined.specs.Joined.{joinedOf}
@@ -33,16 +30,15 @@ use Rattle.window.specs.Window.{windowLinks, linksFromLabel}
 use Rattle.window.proofs.Highest.{chained-highest, highest-chained, highest-most}
 use Rattle.chain.specs.Chain.{ChainOutcome, chainPlaces, labelOf, chainCells, chainNumber, chainByNumber, chainOf}
 use Rattle.promises.specs.History.{clock, History, openSlideIn, windowOf, linksSince, numberIn, added, addedByNumber}
-use Rattle.promises.specs.Implementation.{ours, State, stateOf, gives, givesChain}
+use Rattle.promises.specs.Implementation.{ours, State, stateOf, gives, after, givesChain}
 use Rattle.promises.specs.Demands.{ChainGiven, DifferentCells, Itself, Answers, Chain}
-use Rattle.promises.proofs.Agrees.{Agrees}
+use Rattle.promises.specs.Agrees.{Agrees}
 use Rattle.promises.proofs.Lists.{same-test}
-use Rattle.numbers.proofs.Checks.{first-last, first-under}
-use Rattle.numbers.proofs.Checks.{passes}
-use Rattle.promises.proofs.NumbersAgree.{itself}
+use Rattle.numbers.proofs.Checks.{first-last, passes}
+use Rattle.promises.proofs.NoEight.{four-checks, chain-gives, no-eight}
 use Rattle.promises.proofs.InOrder.{agrees-in-order}
 use Rattle.promises.proofs.Keeps.{step, keeps}
-use Rattle.promises.proofs.Closings.{closed, window-then, closed-inside, closed-now, closed-fewer, closed-since}
+use Rattle.promises.proofs.Closings.{closed, window-then, closed-now, closed-fewer, closed-since}
 use Rattle.promises.proofs.Window.{none-above, book-window, window-book}
 use Rattle.promises.proofs.JoinedIs.{joined-window}
 
@@ -154,11 +150,6 @@ module _ {h : History} {s : State} (agrees : Agrees h s) (one other : ℕ) where
 
   -- ---- the number
 
-  -- a chain has at most 1,024 cells
-  chain-fits : one < cells → 0 < label → length path ≤ 1024
-  chain-fits below l =
-      best-few cells (λ x y m. closed-inside (agrees .sensible) (label - 1) x y (held-closed l x y m)) below (trailOf-best (label-held l))
-
   module _ (chain : List ℕ) where
     chain-number : chainNumber (s .book) (s .log) chain one other
         ≡ firstOf
@@ -166,18 +157,7 @@ module _ {h : History} {s : State} (agrees : Agrees h s) (one other : ℕ) where
         ∷ unless (areCells one other) 3
         ∷ unless (chains (windowOf h) one other) 7
         ∷ [])
-    unfolding chainNumber
-    chain-number =
-        passes 1 _ (agrees-in-order agrees)
-        ∙ rw (agrees .room, ← label-window)
-        (first-under (has chainPlaces chain) 5 _ _
-        (λ _. first-under (areCells one other) 2 _ _
-        (λ are. first-under (ltb 0 label) 6 _ _
-        (λ l. passes 8 [] (le-leb _ _ (chain-fits (ltb-true _ _ (and-eq-true-iff (ltb one cells) _ .0 are .0)) (ltb-true 0 label l)))))))
-
-    chain-gives : givesChain ours s chain one other .answer .number ≡ chainNumber (s .book) (s .log) chain one other
-    unfolding chainOf chainByNumber
-    chain-gives = itself (λ k. chainByNumber k (s .book .clock) (s .book .counts) (s .log) chain one other .answer .number) refl (λ k. refl) _
+    chain-number = four-checks (s .book) (s .log) chain one other ∙ passes 1 _ (agrees-in-order agrees) ∙ rw (agrees .room, label-window)
 
     abbrev given : ChainOutcome
     given =
@@ -188,7 +168,7 @@ module _ {h : History} {s : State} (agrees : Agrees h s) (one other : ℕ) where
 
     chain-done : givesChain ours s chain one other .answer .number ≡ 0 → givesChain ours s chain one other ≡ given
     unfolding chainOf chainByNumber
-    chain-done e = ap (λ k. chainByNumber k (s .book .clock) (s .book .counts) (s .log) chain one other) (sym chain-gives ∙ e) ∙ rw (agrees .clock)
+    chain-done e = ap (λ k. chainByNumber k (s .book .clock) (s .book .counts) (s .log) chain one other) (sym (chain-gives s chain one other) ∙ e) ∙ rw (agrees .clock)
 
     -- ---- where it gives 0
 
@@ -247,7 +227,7 @@ module _ {h : History} {s : State} (agrees : Agrees h s) (one other : ℕ) where
 
       number-is : number ≡ unless (chains (windowOf h) one other) 7
       unfolding firstOf
-      number-is = chain-gives ∙ chain-number ∙ rw (places, are) (first-last _)
+      number-is = chain-gives s chain one other ∙ chain-number ∙ rw (places, are) (first-last _)
 
       done : (number ≡ 0) ↔ Chained (windowOf h) one other
       done = rw number-is (go (chains (windowOf h) one other) refl)
@@ -266,7 +246,7 @@ module _ {h : History} {s : State} (agrees : Agrees h s) (one other : ℕ) where
       positive : number ≡ 0 → 0 < label
       positive e = closed-label 0 zero-le (rw (closed-now h) (done .0 e))
 
-      pub answers : Answers ours s h chain one other
+      pub answers : Answers ours s h chain one other (givesChain ours s chain one other)
       answers =
           record {
             no-trail = no-trail;
@@ -282,6 +262,7 @@ module _ {h : History} {s : State} (agrees : Agrees h s) (one other : ℕ) where
 pub chain : Chain ours
 chain =
     record {
-      number = λ s cs h told chain one other. let a = keeps s cs h told in chain-gives a one other chain ∙ chain-number a one other chain;
+      number = λ s cs h told chain one other. chain-gives (after ours s cs) chain one other ∙ chain-number (keeps s cs h told) one other chain;
+      never-8 = no-eight;
       answers = λ s cs h told chain places one other are. answers (keeps s cs h told) one other chain places are;
     }

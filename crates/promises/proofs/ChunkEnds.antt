@@ -1,7 +1,7 @@
 -- The chunk that ends: the links that the book reads for the backward forest, place by place in order of arrival, are those of
 -- the history's slides of that chunk at places 1 to n - 1, each with its place.
 --
--- The log holds each slide's links in order of arrival (`Kept`). A history has its newest links first, so those of places above p
+-- The log holds each slide's links in order of arrival (`SlideKept`). A history has its newest links first, so those of places above p
 -- stand before those of place p, and the reversed history is the slides one after the other.
 use Prim.Native.Nat.{ℕ, zero, suc, _+_, _-_, _*_, _/_, _%_, _≤_, _<_}
 use mathlib.Core.Path.{_≡_, refl, sym, _∙_, ap, ap₂}
@@ -17,7 +17,7 @@ use Rattle.slides.proofs.Slides.{InRange}
 use Rattle.book_state.specs.Log.{halfOf, spotOf, placeLinks, labelled, chunkLinks}
 use Rattle.promises.specs.History.{Stored, History, chunkIn, ofSlides, slideLinks, linksOf}
 use Rattle.promises.specs.Implementation.{State}
-use Rattle.promises.proofs.Agrees.{spotIn, Kept, Agrees}
+use Rattle.promises.specs.Agrees.{spotIn, SlideKept, Agrees}
 use Rattle.promises.proofs.Lists.{map-onto, same-test, fails, none-later, split-at}
 use Rattle.promises.proofs.BySlide.{labelBy}
 
@@ -60,7 +60,7 @@ module _ {h : History} {s : State} (a : Agrees h s) where
   -- its links, as the book reads them
   place-links : (p : ℕ) → p < n → placeLinks (s .book .counts) (s .log) (halfOf q) p ≡ reverse (linksOf (slideLinks (slideAt p) (h .links)))
   place-links p l =
-      let k : Kept h s (slideAt p) = a .kept (slideAt p) (inl (chunk-at p l)) in
+      let k : SlideKept h s (slideAt p) = a .kept (slideAt p) (inl (chunk-at p l)) in
       let spot : spotOf (halfOf q) p ≡ spotIn h (slideAt p) = rw (chunk-at p l, place-at p l) in
       rw (spot, k .count) (k .links)
 

@@ -11,12 +11,11 @@ use lib.Dec.{leb}
 use borrow.Author.Tests.{le-leb, lt-ltb, ltb-true, leb-true}
 use Rattle.graph.specs.Link.{Link, Linked, along, against, here, there}
 use Rattle.graph.proofs.Chains.{Relinks}
-use Rattle.graph.proofs.Distinct.{Inside}
 use Rattle.slides.specs.Clock.{notBefore, slideOf}
 use Rattle.slides.proofs.Slides.{moved-n, moved-slide}
 use Rattle.book_state.specs.Arrays.{cells}
 use Rattle.promises.specs.History.{Stored, History, openSlideIn, ofSlides, withTime, linksOf, inWindow, windowAt, windowOf, linksSince}
-use Rattle.promises.proofs.Agrees.{Falling, next, Sensible}
+use Rattle.promises.specs.Agrees.{Falling, next, Sensible}
 use Rattle.promises.proofs.Lists.{same-test, same-slides}
 use Rattle.promises.proofs.BySlide.{of-slide, in-slide}
 
@@ -32,22 +31,7 @@ pub window-then : (h : History) (tick : ℕ) → notBefore (h .clock) tick ≡ t
 window-then h tick later =
     ap₂ (λ n k. linksOf (ofSlides (inWindow n k) (h .links))) (moved-n (h .clock) tick) (moved-slide (h .clock) tick later)
 
--- both ends of each link are cells
-ends-picked : (wanted : ℕ → Bool) {k : ℕ} {ss : List Stored} → Falling k ss → Inside cells (linksOf (ofSlides wanted ss))
-unfolding ofSlides
-ends-picked wanted (next {s} {ss} _ a b falls) x y h = go (wanted (s .slide)) h (ends-picked wanted falls x y)
-  where
-    go : (t : Bool) → Linked x y (linksOf (cond t (s ∷ ofSlides wanted ss) (ofSlides wanted ss))) →
-        (Linked x y (linksOf (ofSlides wanted ss)) → x < cells) → x < cells
-    go true (here (along p q)) on = rw (← p) a
-    go true (here (against p q)) on = rw (← q) b
-    go true (there l) on = on l
-    go false l on = on l
-
 module _ {h : History} (sensible : Sensible h) where
-  pub closed-inside : (c : ℕ) → Inside cells (closed h c)
-  closed-inside c = ends-picked _ (sensible .falling)
-
   -- fewer closings leave more links
   pub closed-fewer : {c d : ℕ} → d ≤ c → Relinks (closed h c) (closed h d)
   closed-fewer {c} {d} le x y l =

@@ -1,4 +1,4 @@
--- The demands shut the fakes out (RULES 10.5), and ours meets them all.
+-- The demands shut the fakes out (RULES 10.5).
 --
 -- For each fake there is a short script of calls after which a demand forbids its answer. A fake whose joined or chain is at fault
 -- changes books and logs as ours does, and ours gives 0 there; so its answer is the fault. Where the link is at fault, the answer of
@@ -32,10 +32,10 @@ use Rattle.book.specs.Calls.{openingNumber, openingByNumber, openingOf, linkNum
 use Rattle.chain.specs.Chain.{ChainOutcome, chainPlaces}
 use Rattle.promises.specs.History.{Call, opening, link, clock, History, begun, withTime, withLink, historyFrom, oneMore, firstByNumber, ofSlides, howMany, numberIn, added, addedByNumber, windowOf}
 use Rattle.promises.specs.Implementation.{Implementation, ours, State, stateOf, gives, after, givesChain}
-use Rattle.promises.specs.Demands.{HasHistory, Table, Refused, Joined, Chain}
+use Rattle.promises.specs.Cases.{callsOf, p11Calls}
+use Rattle.promises.specs.Demands.{HasHistory, Table, stepsIn, Joined, Chain}
 use Rattle.promises.specs.Fakes.{refusing, whereDone, withJoined, fixedJoined, inventive, withChain, fixedChain, chainless, forgetful, idle}
 use Rattle.promises.proofs.Table.{table}
-use Rattle.promises.proofs.Refused.{refused}
 use Rattle.promises.proofs.JoinedIs.{joined}
 use Rattle.promises.proofs.ChainIs.{chain}
 
@@ -98,7 +98,7 @@ unfolding historyFrom oneMore firstByNumber firstOf has
 told-opened = refl
 
 pub not-refusing : (number : ℕ) → (number ≡ 0 → ⊥) → Table (refusing number) → ⊥
-unfolding gives firstOf has
+unfolding gives whereDone openingOf openingByNumber openingNumber firstOf has
 not-refusing number refuses t = refuses (t .openings start settings)
 
 -- P2
@@ -119,17 +119,15 @@ not-fixed-no j =
     false≢true (sym (ap (λ o. o .yes) (joined-fault _ start opened (begun settings) told-opened 7 7 refl))
     ∙ j .chained start opened (begun settings) told-opened 7 7 refl .1 (same refl))
 
--- step counts that differ from ours for some two cells, after some calls
+-- steps that are not the rule's for some two cells, after some calls
 pub not-inventive : (steps : Book → ℕ → ℕ → ℕ) (s : State) (cs : List Call) (h : History) → HasHistory s cs h → (one other : ℕ) →
-    areCells one other ≡ true → (steps (after ours s cs .book) one other ≡ joinedOf (after ours s cs .book) one other .steps → ⊥) →
-    Joined (inventive steps) → ⊥
+    areCells one other ≡ true → (steps (after ours s cs .book) one other ≡ stepsIn h one other → ⊥) → Joined (inventive steps) → ⊥
 not-inventive steps s cs h told one other are differ j =
-    differ (sym (ap (λ o. o .steps) (joined-fault _ s cs h told one other are)) ∙ j .steps s cs h told one other are
-    ∙ sym (joined .steps s cs h told one other are))
+    differ (sym (ap (λ o. o .steps) (joined-fault _ s cs h told one other are)) ∙ j .steps s cs h told one other are)
 
 -- for example one step more than there are
 pub not-one-more : Joined (inventive (λ b one other. joinedOf b one other .steps + 1)) → ⊥
-not-one-more = not-inventive _ start opened (begun settings) told-opened 7 7 refl (λ e. omega arith)
+not-one-more = not-inventive _ start opened (begun settings) told-opened 7 7 refl (λ e. omega (arith, joined .steps start opened (begun settings) told-opened 7 7 refl))
 
 abbrev buffer : List ℕ
 buffer = replicate chainPlaces 0
@@ -155,37 +153,47 @@ not-chainless c =
     ∙ c .answers start opened (begun settings) told-opened buffer buffer-has 7 7 refl .done .1 (same refl) in
     omega arith
 
--- ---- a link in slide 4, of the second chunk
+-- ---- one link
 
-abbrev late : List Call
-late = opening settings ∷ link 45 4 5 ∷ []
+abbrev linked : List Call
+linked = opening settings ∷ link 0 1 2 ∷ []
 
-abbrev then : History
-then = withLink (withTime (begun settings) 45) (record { one = 4; other = 5 })
+-- time moves, and a link is stored
+abbrev more : (history : History) (tick one other : ℕ) → History
+more h tick one other = withLink (withTime h tick) (record { one = one; other = other })
 
-told-late : HasHistory start late then
+told-linked : HasHistory start linked (more (begun settings) 0 1 2)
 unfolding historyFrom oneMore firstByNumber firstOf has numberIn addedByNumber added notBefore slideOf movedTo howMany ofSlides lorryCellOver
-told-late = refl
+told-linked = refl
 
-chained-late : Chained (windowOf then) 4 5
+chained-linked : Chained (windowOf (more (begun settings) 0 1 2)) 1 2
 unfolding ofSlides notBefore slideOf movedTo
-chained-late = chained-one (here (along refl refl))
+chained-linked = chained-one (here (along refl refl))
 
--- whoever says no after it
-says-no : (p : Implementation) → p .joinedGives (after p start late .book) 4 5 .yes ≡ false → Joined p → ⊥
-says-no p e j = false≢true (sym e ∙ j .chained start late then told-late 4 5 refl .1 chained-late)
-
-nothing-stored : (joinedOf (after forgetful start late .book) 4 5 .yes ≡ false) × (joinedOf (after idle start late .book) 4 5 .yes ≡ false)
+not-stored : joinedOf (after forgetful start linked .book) 1 2 .yes ≡ false
 unfolding after gives whereDone openingOf linkOf clockOf joinedOf openingNumber openingByNumber stored linkNumber linkStored linkByNumber clockNumber clockByNumber parentSteps parentStepsAt stepLinks fourWalks joinedNumber joinedByNumber firstOf has cleared emptied stayed backwardOf turned movedByChunk movedBook inOrderOf linksAt chunkLinks united unitedAll every countFrom notBefore slideOf placeOf movedTo clockInRange lorryCellOver climb chains
-nothing-stored = (refl, refl)
+not-stored = refl
 
 pub not-forgetful : Joined forgetful → ⊥
-not-forgetful = says-no forgetful (nothing-stored .0)
+not-forgetful j =
+    false≢true (sym not-stored ∙ j .chained start linked (more (begun settings) 0 1 2) told-linked 1 2 refl .1 chained-linked)
+
+-- ---- P11: the link 4-5 of slide 4 stands in the second chunk, and P11 asks for it in the third
+
+abbrev then : History
+then = withTime (withTime (more (more (more (more (more (begun settings) 0 1 2) 10 2 3) 20 3 4) 30 5 6) 45 4 5) 50) 60
+
+told-then : HasHistory start p11Calls then
+unfolding callsOf historyFrom oneMore firstByNumber firstOf has numberIn addedByNumber added notBefore slideOf movedTo howMany ofSlides lorryCellOver
+told-then = refl
+
+chained-then : Chained (windowOf then) 4 5
+unfolding ofSlides notBefore slideOf movedTo
+chained-then = chained-one (here (along refl refl))
+
+idle-then : joinedOf (after idle start p11Calls .book) 4 5 .yes ≡ false
+unfolding callsOf after gives whereDone openingOf linkOf clockOf joinedOf openingNumber openingByNumber stored linkNumber linkStored linkByNumber clockNumber clockByNumber parentSteps parentStepsAt stepLinks fourWalks joinedNumber joinedByNumber firstOf has cleared emptied stayed backwardOf turned movedByChunk movedBook inOrderOf linksAt chunkLinks united unitedAll every countFrom notBefore slideOf placeOf movedTo clockInRange lorryCellOver climb chains
+idle-then = refl
 
 pub not-idle : Joined idle → ⊥
-not-idle = says-no idle (nothing-stored .1)
-
--- ---- ours
-
-pub ours-meets : Table ours × Refused ours × Joined ours × Chain ours
-ours-meets = (table, refused, joined, chain)
+not-idle j = false≢true (sym idle-then ∙ j .chained start p11Calls then told-then 4 5 refl .1 chained-then)

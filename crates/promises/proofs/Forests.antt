@@ -9,7 +9,7 @@ use Rattle.graph.specs.Forest.{Labelled, Each, empty, also, EndsBelow}
 use Rattle.book_state.specs.Arrays.{cells}
 use Rattle.book_state.proofs.Built.{each-reverse}
 use Rattle.promises.specs.History.{Stored, History, chunkIn, ofSlides, forwardLinks, backwardLinks}
-use Rattle.promises.proofs.Agrees.{Falling, none, next, Sensible}
+use Rattle.promises.specs.Agrees.{Falling, none, next, Sensible}
 use Rattle.promises.proofs.BySlide.{labelBy}
 
 pub each-made : {P : Labelled → Type 0} (make : Stored → Labelled) → ((s : Stored) → P (make s)) → (ss : List Stored) → Each P (map make ss)

@@ -20,7 +20,7 @@ use Rattle.forest_check.proofs.Every.{each-every, within-both}
 use Rattle.book_state.specs.Order.{inOrder, inOrderOf}
 use Rattle.promises.specs.History.{Stored, History, backwardLinks}
 use Rattle.promises.specs.Implementation.{State}
-use Rattle.promises.proofs.Agrees.{Sensible, Agrees}
+use Rattle.promises.specs.Agrees.{Sensible, Agrees}
 use Rattle.promises.proofs.BySlide.{labelBy}
 use Rattle.promises.proofs.Forests.{scanned, each-made, forward-ends, backward-ends}
 use Rattle.book_state.proofs.Built.{each-reverse, forest-sound}

@@ -27,7 +27,7 @@ use Rattle.book_joined.specs.Joined.{cutOf, stepLinks, fourWalks, joinedOf, joi
 use Rattle.promises.specs.History.{History, openSlideIn, windowOf, backwardLinks}
 use Rattle.promises.specs.Implementation.{State, ours}
 use Rattle.promises.specs.Demands.{cutIn, forwardStepCount, backwardStepCount, WalksEnd, Joined}
-use Rattle.promises.proofs.Agrees.{Sensible, Agrees}
+use Rattle.promises.specs.Agrees.{Sensible, Agrees}
 use Rattle.promises.proofs.InOrder.{agrees-in-order}
 use Rattle.promises.proofs.Forests.{forward-ends, backward-ends}
 use Rattle.promises.proofs.Keeps.{keeps}
@@ -109,7 +109,7 @@ module _ {h : History} {s : State} (agrees : Agrees h s) where
   unfolding fourWalks
   four-walks one other = rw (backward-walk one, backward-walk other, forward-walk one, forward-walk other)
 
-  joined-steps : (one other : ℕ) → areCells one other ≡ true →
+  pub joined-steps : (one other : ℕ) → areCells one other ≡ true →
       joinedOf (s .book) one other .steps ≡ backwardStepCount h one + backwardStepCount h other + forwardStepCount h one + forwardStepCount h other
   joined-steps one other are = rw (joined-cells (s .book) one other (agrees-in-order agrees) are) (four-walks one other)
 
@@ -120,7 +120,7 @@ module _ {h : History} {s : State} (agrees : Agrees h s) where
       omega (arith, four-walks one other)
 
   -- a refusal counts no steps
-  joined-few : (one other : ℕ) → joinedOf (s .book) one other .steps ≤ 40
+  pub joined-few : (one other : ℕ) → joinedOf (s .book) one other .steps ≤ 40
   unfolding joinedOf joinedByNumber
   joined-few one other = go (joinedNumber (s .book) one other)
     where

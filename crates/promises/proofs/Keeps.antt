@@ -38,8 +38,8 @@ use Rattle.promises.specs.History.{
   historyFrom,
 }
 use Rattle.promises.specs.Implementation.{ours, State, stateOf, gives, after}
-use Rattle.promises.specs.Demands.{roomIn, HasHistory}
-use Rattle.promises.proofs.Agrees.{Agrees}
+use Rattle.promises.specs.Demands.{roomIn, AfterCalls}
+use Rattle.promises.specs.Agrees.{Agrees}
 use Rattle.numbers.proofs.Checks.{has-front, has-long}
 use Rattle.numbers.proofs.Checks.{first-passed, unless-passed}
 use Rattle.book.proofs.Taken.{Taken, taken}
@@ -73,11 +73,6 @@ unfolding gives linkOf clockOf
 room-kept s (opening settings) = opening-room s settings
 room-kept s (link tick one other) = link-room s tick one other _
 room-kept s (clock tick) = clock-room s tick _
-
-pub room-after : (s : State) (cs : List Call) → roomIn (after ours s cs) ≡ roomIn s
-unfolding after
-room-after s [] = refl
-room-after s (c ∷ cs) = room-after (stateOf (gives ours s c)) cs ∙ room-kept s c
 
 -- ---- one call more
 
@@ -158,6 +153,6 @@ keeps-from [] s o h f e = told-fits s o h f e
 keeps-from (c ∷ cs) s o h f e =
     keeps-from cs (stateOf (gives ours s c)) (oneMore (roomIn s) o c) h (more-fits s o c f) (rw (room-kept s c) e)
 
-pub keeps : (s : State) (cs : List Call) (h : History) → HasHistory s cs h → Agrees h (after ours s cs)
+pub keeps : AfterCalls ours λ s h. Agrees h s
 unfolding Fits
 keeps s cs h told = keeps-from cs s none h tt told

@@ -26,7 +26,7 @@ use Rattle.book.specs.Calls.{linkStored}
 use Rattle.promises.specs.History.{Stored, History, openSlideIn, chunkIn, howMany, slideLinks, linksOf, withLink, forwardLinks, backwardLinks}
 use Rattle.promises.specs.Implementation.{State, stateOf}
 use Rattle.promises.specs.Demands.{forwardForest}
-use Rattle.promises.proofs.Agrees.{next, Sensible, Live, spotIn, Kept, Agrees}
+use Rattle.promises.specs.Agrees.{next, Sensible, Live, spotIn, SlideKept, Agrees}
 use Rattle.numbers.proofs.Checks.{has-places, has-long}
 use Rattle.promises.proofs.Lists.{taken-one, left-one}
 use Rattle.promises.proofs.BySlide.{labelBy}
@@ -74,7 +74,7 @@ module _ {h : History} {s : State} (a : Agrees h s) (l : Link) (one : l .one < c
   abbrev new : State
   new = stateOf (linkStored (s .book) (s .log) (l .one) (l .other))
 
-  here : Kept h s (openSlideIn h)
+  here : SlideKept h s (openSlideIn h)
   here = a .kept (openSlideIn h) (inl refl)
 
   new-counts : new .book .counts ≡ set (s .book .counts) spot (count + 1)
@@ -88,7 +88,7 @@ module _ {h : History} {s : State} (a : Agrees h s) (l : Link) (one : l .one < c
   spot-in : spot < length (s .book .counts)
   spot-in = rw (a .counts-long) (spot-below h (a .sensible) (openSlideIn h))
 
-  kept-here : Kept (withLink h l) new (openSlideIn h)
+  kept-here : SlideKept (withLink h l) new (openSlideIn h)
   unfolding howMany
   kept-here =
       record {
@@ -100,7 +100,7 @@ module _ {h : History} {s : State} (a : Agrees h s) (l : Link) (one : l .one < c
             ∙ rw (here .links) (sym (reverse-cons l (linksOf (slideLinks (openSlideIn h) (h .links))))));
       }
 
-  kept-other : (t : ℕ) → Live h t → (t ≡ openSlideIn h → ⊥) → Kept (withLink h l) new t
+  kept-other : (t : ℕ) → Live h t → (t ≡ openSlideIn h → ⊥) → SlideKept (withLink h l) new t
   kept-other t live n =
       record {
         count =
@@ -172,6 +172,6 @@ module _ {h : History} {s : State} (a : Agrees h s) (l : Link) (one : l .one < c
         backward = a .backward ∙ ap (forestOf stepLimit) (sym backward-same);
       }
     where
-      go : (t : ℕ) → Live h t → Dec (t ≡ openSlideIn h) → Kept (withLink h l) new t
+      go : (t : ℕ) → Live h t → Dec (t ≡ openSlideIn h) → SlideKept (withLink h l) new t
       go t live (yes e) = rw e kept-here
       go t live (no n) = kept-other t live n

@@ -24,14 +24,14 @@ use Rattle.numbers.specs.Checks.{has}
 use Rattle.book_state.specs.Numbers.{logPlaces}
 use Rattle.promises.specs.History.{History, chunkIn, ofSlides, howMany, slideLinks, begun, forwardLinks, backwardLinks}
 use Rattle.promises.specs.Implementation.{State}
-use Rattle.promises.proofs.Agrees.{none, Sensible, Live, spotIn, Kept, Agrees}
+use Rattle.promises.specs.Agrees.{none, Sensible, Live, spotIn, SlideKept, Agrees}
 use Rattle.numbers.proofs.Checks.{has-front}
 use Rattle.book_time.proofs.Moves.{zeros}
 use Rattle.promises.proofs.BySlide.{labelBy}
 use Rattle.book_state.proofs.Built.{holds-fresh}
 
 -- a slide without links is kept where its count is 0
-pub kept-none : (h : History) (s : State) (t : ℕ) → slideLinks t (h .links) ≡ [] → getD (s .book .counts) (spotIn h t) 0 ≡ 0 → Kept h s t
+pub kept-none : (h : History) (s : State) (t : ℕ) → slideLinks t (h .links) ≡ [] → getD (s .book .counts) (spotIn h t) 0 ≡ 0 → SlideKept h s t
 unfolding howMany linksAt
 kept-none h s t e c = record { count = rw e c; links = rw e }
 

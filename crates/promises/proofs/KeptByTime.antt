@@ -19,7 +19,7 @@ use Rattle.book_state.specs.Log.{halfOf}
 use Rattle.book_time.specs.Time.{cleared, emptied, stayed, backwardOf, turned, movedBook}
 use Rattle.promises.specs.History.{History, openSlideIn, chunkIn, ofSlides, withTime, forwardLinks, backwardLinks}
 use Rattle.promises.specs.Implementation.{State}
-use Rattle.promises.proofs.Agrees.{Sensible, Live, Kept, Agrees}
+use Rattle.promises.specs.Agrees.{Sensible, Live, SlideKept, Agrees}
 use Rattle.promises.proofs.Lists.{fails, falling-later, none-later}
 use Rattle.book_time.proofs.Moves.{moved-cases, cleared-there}
 use Rattle.promises.proofs.Counts.{cleared-before, cleared-long, cleared-few}
@@ -70,10 +70,10 @@ module _ {h : History} {s : State} (a : Agrees h s) (tick : ℕ) (later : notBef
   -- ---- the same chunk
 
   module _ (same : chunkIn then ≡ chunkIn h) where
-    stay-kept : (t : ℕ) → Live then t → Kept then (record { book = stayed (s .book) (movedTo (s .book .clock) tick); log = s .log }) t
+    stay-kept : (t : ℕ) → Live then t → SlideKept then (record { book = stayed (s .book) (movedTo (s .book .clock) tick); log = s .log }) t
     unfolding stayed
     stay-kept t live =
-        let k : Kept h s t = a .kept t (rw (same, n-then) at live) in
+        let k : SlideKept h s t = a .kept t (rw (same, n-then) at live) in
         record { count = rw n-then (k .count); links = rw n-then (k .links) }
 
     stay-agrees : Agrees then (record { book = stayed (s .book) (movedTo (s .book .clock) tick); log = s .log })
@@ -107,12 +107,12 @@ module _ {h : History} {s : State} (a : Agrees h s) (tick : ℕ) (later : notBef
     unfolding turned
     new-counts = rw half-then
 
-    new-kept : (t : ℕ) → Live then t → Kept then new t
+    new-kept : (t : ℕ) → Live then t → SlideKept then new t
     new-kept t (inl here) =
         kept-none then new t (none-then (λ u. eqb u t) (λ u e. rw (eqb-true u t e) (omega (arith, chunk-same t))))
         (rw (new-counts, here) (cleared-there _ _ (s .book .counts) (place-in then time-sensible t)))
     new-kept t (inr before) =
-        let k : Kept h s t = a .kept t (inl (omega (arith, chunk-same t))) in
+        let k : SlideKept h s t = a .kept t (inl (omega (arith, chunk-same t))) in
         record {
           count =
               rw new-counts

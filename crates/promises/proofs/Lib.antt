@@ -1,4 +1,3 @@
-pub mod Agrees
 pub mod BySlide
 pub mod ChainIs
 pub mod ChunkEnds
@@ -23,9 +22,12 @@ pub mod ListedPrints
 pub mod ListedRecords
 pub mod Lists
 pub mod Log
+pub mod NeverOpened
+pub mod NoEight
 pub mod NumbersAgree
+pub mod Promise
 pub mod Refused
-pub mod Single
+pub mod Routines
 pub mod Split
 pub mod Spots
 pub mod Steps

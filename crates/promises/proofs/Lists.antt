@@ -8,7 +8,7 @@ use native.Mathlib.Omega.{arith}
 use native.Mathlib.Nat.{le-trans}
 use native.Mathlib.Decide.{decLe}
 use Rattle.promises.specs.History.{Stored, ofSlides}
-use Rattle.promises.proofs.Agrees.{Falling, none, next}
+use Rattle.promises.specs.Agrees.{Falling, none, next}
 
 -- ---- tests
 

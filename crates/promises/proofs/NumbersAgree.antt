@@ -25,7 +25,7 @@ use Rattle.book.specs.Calls.{openingNumber, openingByNumber, openingOf, linkNum
 use Rattle.promises.specs.History.{Call, opening, link, clock, History, chunkIn, howMany, slideLinks, numberIn}
 use Rattle.promises.specs.Implementation.{ours, State, gives}
 use Rattle.promises.specs.Demands.{roomIn}
-use Rattle.promises.proofs.Agrees.{Agrees}
+use Rattle.promises.specs.Agrees.{Agrees}
 use Rattle.numbers.proofs.Checks.{first-last, first-under}
 use Rattle.numbers.proofs.Checks.{passes}
 use Rattle.promises.proofs.Lists.{fails, none-later}
@@ -41,15 +41,15 @@ pub opening-gives : (b : Book) (log : List ℕ) (s : Settings) → openingOf b l
 unfolding openingOf openingByNumber
 opening-gives b log s = itself (λ k. openingByNumber k b log s .number) refl (λ k. refl) _
 
-link-gives : (b : Book) (log : List ℕ) (tick one other : ℕ) → linkOf b log tick one other .number ≡ linkNumber b log tick one other
+pub link-gives : (b : Book) (log : List ℕ) (tick one other : ℕ) → linkOf b log tick one other .number ≡ linkNumber b log tick one other
 unfolding linkOf linkByNumber linkStored
 link-gives b log tick one other = itself (λ k. linkByNumber k b log tick one other .number) refl (λ k. refl) _
 
-clock-gives : (b : Book) (log : List ℕ) (tick : ℕ) → clockOf b log tick .number ≡ clockNumber b log tick
+pub clock-gives : (b : Book) (log : List ℕ) (tick : ℕ) → clockOf b log tick .number ≡ clockNumber b log tick
 unfolding clockOf clockByNumber
 clock-gives b log tick = itself (λ k. clockByNumber k b log tick .number) refl (λ k. refl) _
 
-joined-gives : (b : Book) (one other : ℕ) → joinedOf b one other .number ≡ joinedNumber b one other
+pub joined-gives : (b : Book) (one other : ℕ) → joinedOf b one other .number ≡ joinedNumber b one other
 unfolding joinedOf joinedByNumber
 joined-gives b one other = itself (λ k. joinedByNumber k b one other .number) refl (λ k. refl) _
 

@@ -17,7 +17,7 @@ use Rattle.graph.proofs.Chains.{Relinks, linked-left, linked-right, linked-appe
 use Rattle.slides.proofs.Slides.{place-rest, place-order, window-places}
 use Rattle.promises.specs.History.{History, openSlideIn, ofSlides, slideLinks, linksOf, inWindow, windowOf, chunkIn, placeIn, forwardLinks, backwardLinks}
 use Rattle.promises.specs.Demands.{cutIn}
-use Rattle.promises.proofs.Agrees.{Sensible}
+use Rattle.promises.specs.Agrees.{Sensible}
 use Rattle.promises.proofs.BySlide.{of-slide, InSlide, in-slide, labelBy, turned-falls, cut-picked, cut-turned, turned-links, links-turned}
 
 -- ---- the links that the two forests are walked by

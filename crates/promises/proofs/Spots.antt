@@ -10,7 +10,7 @@ use Rattle.slides.specs.declared.Clock.{Clock}
 use Rattle.slides.proofs.Slides.{InRange, place-rest}
 use Rattle.book_state.specs.Log.{halfOf, spotOf}
 use Rattle.promises.specs.History.{History, openSlideIn}
-use Rattle.promises.proofs.Agrees.{Sensible, Live, spotIn}
+use Rattle.promises.specs.Agrees.{Sensible, Live, spotIn}
 
 module _ (h : History) (sensible : Sensible h) where
   range : InRange (h .clock)

@@ -24,7 +24,7 @@ use Rattle.book_state.specs.Log.{labelled}
 use Rattle.window.specs.Window.{windowSlides, linksOfAge, linksFromAge, windowLinks, linksFromLabel}
 use Rattle.promises.specs.History.{History, openSlideIn, slideLinks, linksOf, inWindow, windowAt}
 use Rattle.promises.specs.Implementation.{State}
-use Rattle.promises.proofs.Agrees.{Kept, Agrees}
+use Rattle.promises.specs.Agrees.{SlideKept, Agrees}
 use Rattle.promises.proofs.BySlide.{of-slide, InSlide, in-slide, turned-links, links-turned}
 use Rattle.promises.proofs.Split.{wide, in-window}
 
@@ -100,7 +100,7 @@ module _ {h : History} {s : State} (agrees : Agrees h s) where
       back : openSlideIn h - age ≡ t
       back = omega arith
 
-      kept : Kept h s t
+      kept : SlideKept h s t
       kept = agrees .kept t (⊎-map (λ q. q) (λ w. w .0) (in-window (agrees .sensible) t (omega arith) .0 (omega arith)))
 
   -- the book's open slide and its n are the history's

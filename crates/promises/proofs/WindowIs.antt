@@ -20,7 +20,7 @@ use Rattle.promises.specs.History.{History, windowOf}
 use Rattle.promises.specs.Implementation.{ours, State}
 use Rattle.promises.specs.Demands.{AfterCalls}
 use Rattle.promises.specs.WindowIs.{heldLinks, firstOfGroup, WindowIs}
-use Rattle.promises.proofs.Agrees.{Agrees}
+use Rattle.promises.specs.Agrees.{Agrees}
 use Rattle.promises.proofs.Closings.{closed-now}
 use Rattle.promises.proofs.Keeps.{keeps}
 use Rattle.promises.proofs.Window.{links-of-age, book-window, window-book}

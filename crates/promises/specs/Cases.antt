@@ -85,6 +85,14 @@ links tick one other = call (link tick one other) 0
 abbrev ticks : (tick : ℕ) → Step
 ticks tick = call (clock tick) 0
 
+-- the calls of a script, without its questions
+unfoldable pub callsOf : List Step → List Call
+callsOf [] = []
+callsOf (call c number ∷ ds) = c ∷ callsOf ds
+callsOf (joined one other answer steps ∷ ds) = callsOf ds
+callsOf (chain one other cells newest hold ∷ ds) = callsOf ds
+callsOf (noTrail one other ∷ ds) = callsOf ds
+
 abbrev pub script : List Step
 script =
     -- P1, P2 (RULES 9.1)
@@ -160,6 +168,10 @@ script =
     ∷ links 45 4 5
     ∷ []
 
+-- the calls before the questions of P11
+abbrev pub p11Calls : List Call
+p11Calls = callsOf (take 18 script)
+
 -- what an opening that is taken leaves, whatever book and log it was given
 opened : (b : Book) (log : Log) (s : Settings) → takenNumber s ≡ 0 → has logPlaces log ≡ true →
     openingOf b log s ≡ record { book = emptied (started s) (fittingOf s); log = replicate logPlaces 0 ++ drop logPlaces log; number = 0 }
@@ -185,6 +197,10 @@ computed : (rest : Log) → given (record { book = emptied (started settings) (f
 unfolding given stated gives openingOf linkOf clockOf joinedOf chainOf openingNumber openingByNumber stored linkNumber linkStored linkByNumber clockNumber clockByNumber parentSteps parentStepsAt stepLinks fourWalks joinedNumber joinedByNumber chainNumber chainByNumber highest windowLinks linksFromAge atLeast trailOf firstOf has cleared emptied stayed backwardOf turned movedByChunk movedBook inOrderOf linksAt chunkLinks united unitedAll every countFrom notBefore slideOf placeOf movedTo clockInRange lorryCellOver climb chains
 computed rest = refl
 
-pub cases : (b : Book) (log : Log) → has logPlaces log ≡ true → given (record { book = b; log = log }) script ≡ stated script
+-- whatever book and log they start from
+abbrev pub Cases : Type 0
+Cases = (b : Book) (log : Log) → has logPlaces log ≡ true → given (record { book = b; log = log }) script ≡ stated script
+
+pub cases : Cases
 unfolding stated
 cases b log room = from-opening b log settings later refl room ∙ ap (λ rows. called 0 ∷ rows) (computed (drop logPlaces log))

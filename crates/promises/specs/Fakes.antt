@@ -5,7 +5,7 @@ use mathlib.Core.Bool.{Bool, false, cond}
 use mathlib.Core.List.{List, _++_}
 use lib.Dec.{ltb}
 use lib.ListN.{length, drop}
-use Rattle.numbers.specs.Kinds.{Cell, Number}
+use Rattle.numbers.specs.Kinds.{Cell, Log, Number}
 use Rattle.slides.specs.Clock.{slideOf}
 use Rattle.book_state.specs.declared.Book.{Book}
 use Rattle.book_joined.specs.declared.JoinedAnswer.{JoinedAnswer}
@@ -15,22 +15,27 @@ use Rattle.chain.specs.declared.ChainAnswer.{ChainAnswer}
 use Rattle.chain.specs.Chain.{ChainOutcome, chainOf}
 use Rattle.promises.specs.Implementation.{Implementation}
 
--- it refuses everything, with one number
-abbrev pub refusing : (number : Number) → Implementation
-refusing number =
-    record {
-      openingGives = λ b log s. record { book = b; log = log; number = number };
-      linkGives = λ b log tick one other. record { book = b; log = log; number = number };
-      clockGives = λ b log tick. record { book = b; log = log; number = number };
-      joinedGives = λ b one other. record { number = number; yes = false; steps = 0 };
-      chainGives = λ b log chain one other.
-          record { answer = record { newest = 0; cells = 0; hold = 0; number = number }; chain = chain };
-    }
-
 -- the fault where ours gives 0, and what ours gives otherwise
 unfoldable pub whereDone : {A : Type 0} → (number : Number) (fault ours : A) → A
 whereDone zero fault ours = fault
 whereDone (suc k) fault ours = ours
+
+-- it refuses everything, with one number
+abbrev pub refusing : (number : Number) → Implementation
+refusing number =
+    record {
+      openingGives = λ b log s. refusal b log (openingOf b log s);
+      linkGives = λ b log tick one other. refusal b log (linkOf b log tick one other);
+      clockGives = λ b log tick. refusal b log (clockOf b log tick);
+      joinedGives = λ b one other.
+          let o : JoinedAnswer = joinedOf b one other in whereDone (o .number) (record { number = number; yes = false; steps = 0 }) o;
+      chainGives = λ b log chain one other.
+          let o : ChainOutcome = chainOf b log chain one other in
+          whereDone (o .answer .number) (record { answer = record { newest = 0; cells = 0; hold = 0; number = number }; chain = chain }) o;
+    }
+  where
+    refusal : Book → Log → Outcome → Outcome
+    refusal b log o = whereDone (o .number) (record { book = b; log = log; number = number }) o
 
 -- ours with another joined
 abbrev pub withJoined : (Book → ℕ → ℕ → JoinedAnswer) → Implementation

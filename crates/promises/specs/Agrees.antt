@@ -1,6 +1,7 @@
--- When a book and its log agree with a history: the clock and the fitting are the history's, each live place of the log
--- holds the links of its slide in order of arrival, and the arrays hold the two forests of RULES 3. Everything that is
--- promised of books that calls have left follows from this; Keeps shows that calls keep it.
+-- When the state that the definitions speak of, a book and its log, agrees with a history: the clock and the fitting are the history's,
+-- each live place of the log holds the links of its slide in order of arrival, and the arrays hold the two forests of RULES 3. This is
+-- the whole relation between the layer of the history and that of the definitions: everything that is promised of books that calls
+-- have left follows from it, and calls keep it (proofs/Keeps).
 use Prim.Native.Nat.{ℕ, _+_, _/_, _%_, _≤_, _<_}
 use mathlib.Core.Path.{_≡_}
 use mathlib.Core.Logic.{_⊎_}
@@ -40,7 +41,7 @@ abbrev pub spotIn : History → ℕ → ℕ
 spotIn h t = spotOf (halfOf (t / h .clock .n)) (t % h .clock .n)
 
 -- the links of a slide stand in the log, in order of arrival
-pub record Kept (h : History) (s : State) (t : ℕ) : Type 0 where
+pub record SlideKept (h : History) (s : State) (t : ℕ) : Type 0 where
   pub count : getD (s .book .counts) (spotIn h t) 0 ≡ howMany (slideLinks t (h .links))
   pub links : linksAt (s .log) (startOf (spotIn h t)) (howMany (slideLinks t (h .links))) ≡ reverse (linksOf (slideLinks t (h .links)))
 
@@ -51,7 +52,7 @@ pub record Agrees (h : History) (s : State) : Type 0 where
   pub room : has logPlaces (s .log) ≡ true
   pub counts-long : length (s .book .counts) ≡ 32
   pub counts-few : (spot : ℕ) → getD (s .book .counts) spot 0 ≤ 256
-  pub kept : (t : ℕ) → Live h t → Kept h s t
+  pub kept : (t : ℕ) → Live h t → SlideKept h s t
   pub forward-long : (length (s .book .«forward_parent») ≡ cells) × (length (s .book .«forward_size») ≡ cells)
   pub backward-long :
       (length (s .book .«backward_parent») ≡ cells) × (length (s .book .«backward_size») ≡ cells)

@@ -1,0 +1,96 @@
+-- The public functions below the exported calls: two results that a contract allows are equal, lent memory included (RULES 10.2). They are
+-- taken as the kit hands them out (Calls). Left out are contracts that are an equation for the result and one for each lent buffer: these
+-- allow one result by their form.
+use Rattle.book_time.proofs.freshen
+use Rattle.book_time.proofs.move_to
+use Rattle.book.proofs.fields.opening as fields_opening
+use Rattle.book.proofs.fields.link as fields_link
+use Rattle.book.proofs.fields.clock as fields_clock
+use Rattle.window.proofs.gather
+use Rattle.chain_fewest.proofs.best_trail
+use Rattle.chain.proofs.over_fields as chain_over
+use Rattle.file_play.proofs.over_fields as play_over
+use Rattle.file_play.proofs.play_file
+use Rattle.window_groups.proofs.over_fields as groups_over
+use Rattle.text.proofs.put_word
+use Rattle.text.proofs.put_fields
+use Rattle.text.proofs.put_line
+use Rattle.listing.proofs.list as listing_list
+use Rattle.forest_unite.proofs.unite
+use Rattle.buckets.proofs.list_entries
+use Rattle.forest_cross.proofs.joined_across
+use Rattle.pledges.specs.Exported.{Exported, SingleResult}
+
+abbrev pub freshenFn : Exported
+freshenFn = record { ended = freshen.ended; clauses = λ M. freshen.clauses; routine = freshen.Symbol.routine; met = λ M. freshen.Met.met }
+
+abbrev pub moveToFn : Exported
+moveToFn = record { ended = move_to.ended; clauses = λ M. move_to.clauses; routine = move_to.Symbol.routine; met = λ M. move_to.Met.met }
+
+abbrev pub fieldsOpeningFn : Exported
+fieldsOpeningFn = record { ended = fields_opening.ended; clauses = λ M. fields_opening.clauses; routine = fields_opening.Symbol.routine; met = λ M. fields_opening.Met.met }
+
+abbrev pub fieldsLinkFn : Exported
+fieldsLinkFn = record { ended = fields_link.ended; clauses = λ M. fields_link.clauses; routine = fields_link.Symbol.routine; met = λ M. fields_link.Met.met }
+
+abbrev pub fieldsClockFn : Exported
+fieldsClockFn = record { ended = fields_clock.ended; clauses = λ M. fields_clock.clauses; routine = fields_clock.Symbol.routine; met = λ M. fields_clock.Met.met }
+
+abbrev pub gatherFn : Exported
+gatherFn = record { ended = gather.ended; clauses = λ M. gather.clauses; routine = gather.Symbol.routine; met = λ M. gather.Met.met }
+
+abbrev pub bestTrailFn : Exported
+bestTrailFn = record { ended = best_trail.ended; clauses = λ M. best_trail.clauses; routine = best_trail.Symbol.routine; met = λ M. best_trail.Met.met }
+
+abbrev pub chainOverFn : Exported
+chainOverFn = record { ended = chain_over.ended; clauses = λ M. chain_over.clauses; routine = chain_over.Symbol.routine; met = λ M. chain_over.Met.met }
+
+abbrev pub playOverFn : Exported
+playOverFn = record { ended = play_over.ended; clauses = λ M. play_over.clauses; routine = play_over.Symbol.routine; met = λ M. play_over.Met.met }
+
+abbrev pub playFileFn : Exported
+playFileFn = record { ended = play_file.ended; clauses = λ M. play_file.clauses; routine = play_file.Symbol.routine; met = λ M. play_file.Met.met }
+
+abbrev pub groupsOverFn : Exported
+groupsOverFn = record { ended = groups_over.ended; clauses = λ M. groups_over.clauses; routine = groups_over.Symbol.routine; met = λ M. groups_over.Met.met }
+
+abbrev pub putWordFn : Exported
+putWordFn = record { ended = put_word.ended; clauses = λ M. put_word.clauses; routine = put_word.Symbol.routine; met = λ M. put_word.Met.met }
+
+abbrev pub putFieldsFn : Exported
+putFieldsFn = record { ended = put_fields.ended; clauses = λ M. put_fields.clauses; routine = put_fields.Symbol.routine; met = λ M. put_fields.Met.met }
+
+abbrev pub putLineFn : Exported
+putLineFn = record { ended = put_line.ended; clauses = λ M. put_line.clauses; routine = put_line.Symbol.routine; met = λ M. put_line.Met.met }
+
+abbrev pub listFn : Exported
+listFn = record { ended = listing_list.ended; clauses = λ M. listing_list.clauses; routine = listing_list.Symbol.routine; met = λ M. listing_list.Met.met }
+
+abbrev pub uniteFn : Exported
+uniteFn = record { ended = unite.ended; clauses = λ M. unite.clauses; routine = unite.Symbol.routine; met = λ M. unite.Met.met }
+
+abbrev pub listEntriesFn : Exported
+listEntriesFn = record { ended = list_entries.ended; clauses = λ M. list_entries.clauses; routine = list_entries.Symbol.routine; met = λ M. list_entries.Met.met }
+
+abbrev pub joinedAcrossFn : Exported
+joinedAcrossFn = record { ended = joined_across.ended; clauses = λ M. joined_across.clauses; routine = joined_across.Symbol.routine; met = λ M. joined_across.Met.met }
+
+pub record Single : Type 2 where
+  pub book-time-freshen : SingleResult freshenFn
+  pub book-time-move-to : SingleResult moveToFn
+  pub book-fields-opening : SingleResult fieldsOpeningFn
+  pub book-fields-link : SingleResult fieldsLinkFn
+  pub book-fields-clock : SingleResult fieldsClockFn
+  pub window-gather : SingleResult gatherFn
+  pub chain-fewest-best-trail : SingleResult bestTrailFn
+  pub chain-over-fields : SingleResult chainOverFn
+  pub file-play-over-fields : SingleResult playOverFn
+  pub file-play-play-file : SingleResult playFileFn
+  pub window-groups-over-fields : SingleResult groupsOverFn
+  pub text-put-word : SingleResult putWordFn
+  pub text-put-fields : SingleResult putFieldsFn
+  pub text-put-line : SingleResult putLineFn
+  pub listing-list : SingleResult listFn
+  pub forest-unite-unite : SingleResult uniteFn
+  pub buckets-list-entries : SingleResult listEntriesFn
+  pub forest-cross-joined-across : SingleResult joinedAcrossFn

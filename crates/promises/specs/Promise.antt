@@ -1,0 +1,56 @@
+-- What the customer is promised, on one page: `Kept`, and its theorem is `kept` (proofs/Promise).
+--
+-- There are three layers, each with its own words, and two relations between them.
+--     history        what the calls say happened: links with their slides, the clock, and the table of numbers (History)
+--     definitions    what each call makes of a book, its log and whatever is lent, for every input: `ours` (Implementation)
+--     code           the exported routines, as the machine runs them (the crates kerb, kerb_change, kerb_ask, kerb_file)
+-- The state that calls leave agrees with the history (Agrees), and the code gives what the definitions say (Pledges, of the crate
+-- pledges). A demand is stated of the definitions, over any implementation, so that fakes can be held against it (Demands, Fakes); and of
+-- the code itself (Routines).
+use Rattle.pledges.specs.Pledges.{Pledges}
+use Rattle.promises.specs.Implementation.{ours}
+use Rattle.promises.specs.Agrees.{Agrees}
+use Rattle.promises.specs.Demands.{AfterCalls, Table, Refused, FilesRefused, NeverOpened, Joined, Files, Chain}
+use Rattle.promises.specs.Routines.{CodeRefuses, CodeTable, CodeJoined, CodeFiles, CodeChain}
+use Rattle.promises.specs.Cases.{Cases}
+use Rattle.pledges.specs.Single.{Single}
+
+-- Every call ends and stays inside its memory for all inputs: bad settings, cells, ticks, files, short buffers, altered books. A refused
+-- call gives the number in the table and alters nothing lent to it.
+pub record Demand1 : Type 2 where
+  -- of every exported call: it asks nothing of its caller; called with anything, its code ends, touches no memory but its own and what
+  -- is lent to it, and gives what its definition says, which is the one result that its contract allows
+  pub ends : Pledges
+  pub refuses : CodeRefuses
+  -- the same of the definitions, with the log places that no call changes, and with records
+  pub refused : Refused ours
+  pub files-refused : FilesRefused
+  pub never-opened : NeverOpened
+
+-- After any calls from an opening, two cells are joined exactly when they are the same or links of the current window chain them; the
+-- count of forest steps is the rule's, never above 40. Link files read and written again have the same bytes, and the reverse.
+pub record Demand2 : Type 2 where
+  pub joined : Joined ours
+  pub code-joined : CodeJoined
+  pub files : Files
+  pub code-files : CodeFiles
+
+-- The chain call says "no trail" exactly when there is none; otherwise it gives the newest slide L, a chain from L on with the fewest
+-- links, the first of those by cell numbers, and for how many closings the two stay joined.
+pub record Demand3 : Type 2 where
+  pub chain : Chain ours
+  pub code-chain : CodeChain
+
+pub record Kept : Type 2 where
+  pub demand-1 : Demand1
+  pub demand-2 : Demand2
+  pub demand-3 : Demand3
+  -- the numbers of the table, by the history
+  pub table : Table ours
+  pub code-table : CodeTable
+  -- the worked cases P1 to P12 and O1 to O4 (RULES 9)
+  pub cases : Cases
+  -- two results that a public contract allows are equal: of exported calls in `ends`, of the functions below them here (RULES 10.2)
+  pub single : Single
+  -- what all of it rests on: the state that calls leave agrees with the history
+  pub agrees : AfterCalls ours λ s h. Agrees h s

@@ -1,0 +1,121 @@
+-- The demands of the code itself: what each exported routine gives when it is called with anything at all, said of the arguments, the
+-- result and the lent memory afterwards (a name with a stroke). The code gives what the definitions say (the crate pledges), so it
+-- meets what is proved of the definitions.
+use Prim.Native.Nat.{ℕ, _+_, _*_, _≤_}
+use mathlib.Core.Path.{_≡_}
+use mathlib.Core.Bool.{true, false}
+use mathlib.Core.List.{List}
+use mathlib.Core.Logic.{_↔_}
+use lib.Dec.{leb}
+use lib.ListN.{length, take}
+use denote.Ref.{now}
+use Rattle.numbers.specs.Checks.{unless, has}
+use Rattle.numbers.specs.Front.{atFront}
+use Rattle.numbers.specs.Kinds.{Bytes, Log}
+use Rattle.graph.specs.Link.{Chained}
+use Rattle.settings.specs.declared.Settings.{Settings}
+use Rattle.book_state.specs.declared.Book.{Book}
+use Rattle.book_state.specs.Numbers.{areCells}
+use Rattle.book_state.specs.Order.{inOrder}
+use Rattle.book_joined.specs.Joined.{joinedNumber}
+use Rattle.book.specs.Calls.{openingNumber, linkNumber, clockNumber}
+use Rattle.chain.specs.Chain.{chainPlaces, chainNumber}
+use Rattle.window_groups.specs.Call.{groupsNumberIn}
+use Rattle.file.specs.Layout.{endingSize, recordCount}
+use Rattle.file.specs.Format.{readNumber, readOf, writeNumber, outputOf}
+use Rattle.file.proofs.Bytes.{AreBytes}
+use Rattle.file.proofs.Files.{FitsFields}
+use Rattle.file_play.specs.Record.{packNumber}
+use Rattle.listing.specs.Listing.{outputPlaces}
+use Rattle.pledges.specs.Exported.{CodeMeets}
+use Rattle.pledges.specs.Calls.{openingCall, linkCall, clockCall, playCall, joinedCall, chainCall, groupsCall, readCall, writeCall, listCall, packCall, unpackCall}
+use Rattle.pledges.specs.Pledges.{with1, with2, with3, with4, with5}
+use Rattle.promises.specs.History.{Call, opening, link, clock, History, numberIn, windowOf}
+use Rattle.promises.specs.Implementation.{ours, State, after}
+use Rattle.promises.specs.Demands.{roomIn, HasHistory, Stopped, stepsIn, Answers}
+
+-- with a number that is not 0
+abbrev pub Refusing : (number : ℕ) (unchanged : Type 0) → Type 0
+Refusing number unchanged = (number ≡ 0 → ⊥) → unchanged
+
+-- 1. the number is the table's (RULES 7.2), for every input, and a call that is refused changes nothing that it was lent and answers
+-- with 0 in the other fields (RULES 7.4). Playing alone keeps the records before the one that is refused (RULES 6.7)
+pub record CodeRefuses : Type 2 where
+  pub kerb-opening : CodeMeets openingCall λ κs a r e. with3 a λ book log s. with3 e λ book′ log′ s′.
+      (r ≡ openingNumber s (now log)) × Refusing r ((now book′ ≡ now book) × (now log′ ≡ now log))
+  pub kerb-link : CodeMeets linkCall λ κs a r e. with5 a λ book log tick one other. with5 e λ book′ log′ tick′ one′ other′.
+      (r ≡ linkNumber (now book) (now log) tick one other) × Refusing r ((now book′ ≡ now book) × (now log′ ≡ now log))
+  pub kerb-clock : CodeMeets clockCall λ κs a r e. with3 a λ book log tick. with3 e λ book′ log′ tick′.
+      (r ≡ clockNumber (now book) (now log) tick) × Refusing r (now book′ ≡ now book)
+  pub kerb-joined : CodeMeets joinedCall λ κs a r e. with3 a λ book one other.
+      (r .number ≡ joinedNumber (now book) one other) × Refusing (r .number) (r ≡ record { number = r .number; yes = false; steps = 0 })
+  pub kerb-chain : CodeMeets chainCall λ κs a r e. with5 a λ book log one other chain. with5 e λ book′ log′ one′ other′ chain′.
+      (r .number ≡ chainNumber (now book) (now log) (now chain) one other)
+      × Refusing (r .number) ((r ≡ record { newest = 0; cells = 0; hold = 0; number = r .number }) × (now chain′ ≡ now chain))
+  pub kerb-groups : CodeMeets groupsCall λ κs a r e. with5 a λ book log first size hold. with5 e λ book′ log′ first′ size′ hold′.
+      (r .number ≡ groupsNumberIn (inOrder (now book)) (now log) (now first) (now size) (now hold))
+      × Refusing (r .number)
+      ((r ≡ record { links = 0; number = r .number }) × (now first′ ≡ now first) × (now size′ ≡ now size) × (now hold′ ≡ now hold))
+  pub kerb-read : CodeMeets readCall λ κs a r e. with1 a λ file.
+      (r .number ≡ readNumber (now file))
+      × Refusing (r .number) (r ≡ record { settings = record { t0 = 0; b = 0; n = 0; mounting = 0 }; m = 0; number = readNumber (now file) })
+  pub kerb-write : CodeMeets writeCall λ κs a r e. with3 a λ s records out. with3 e λ s′ records′ out′.
+      (r ≡ writeNumber s (length (now records)) (length (now out))) × Refusing r (now out′ ≡ now out)
+  pub kerb-list : CodeMeets listCall λ κs a r e. with2 a λ file out. with2 e λ file′ out′.
+      (r .number ≡ unless (leb outputPlaces (length (now out))) 6)
+      × Refusing (r .number) ((r ≡ record { length = 0; number = r .number }) × (now out′ ≡ now out))
+  pub kerb-pack : CodeMeets packCall λ κs a r e. with4 a λ tick one other out. with4 e λ tick′ one′ other′ out′.
+      (r ≡ packNumber (length (now out))) × Refusing r (now out′ ≡ now out)
+  pub kerb-unpack : CodeMeets unpackCall λ κs a r e. with2 a λ records i.
+      (r .number ≡ unless (leb (8 * i + 8) (length (now records))) 9)
+      × Refusing (r .number) (r ≡ record { tick = 0; one = 0; other = 0; number = r .number })
+  pub kerb-play : CodeMeets playCall λ κs a r e. with3 a λ book log file. with3 e λ book′ log′ file′.
+      Refusing (readNumber (now file))
+      ((r ≡ record { taken = 0; number = readNumber (now file) }) × (now book′ ≡ now book) × (now log′ ≡ now log))
+      × (readNumber (now file) ≡ 0 → Refusing (r .number)
+      (Stopped (now file) 0 (now book) (now log) (record { book = now book′; log = now log′; number = r .number; taken = r .taken })))
+
+-- calls have left this book and this log, and tell this history
+pub record LeftByCalls (b : Book) (log : Log) (h : History) : Type 0 where
+  pub start : State
+  pub calls : List Call
+  pub told : HasHistory start calls h
+  pub left : after ours start calls ≡ record { book = b; log = log }
+
+-- after any calls from an opening, the numbers are the history's (RULES 7.1, 7.8)
+pub record CodeTable : Type 2 where
+  pub kerb-opening : CodeMeets openingCall λ κs a r e. with3 a λ book log s.
+      (h : History) → LeftByCalls (now book) (now log) h → r ≡ numberIn (roomIn (record { book = now book; log = now log })) h (opening s)
+  pub kerb-link : CodeMeets linkCall λ κs a r e. with5 a λ book log tick one other.
+      (h : History) → LeftByCalls (now book) (now log) h →
+      r ≡ numberIn (roomIn (record { book = now book; log = now log })) h (link tick one other)
+  pub kerb-clock : CodeMeets clockCall λ κs a r e. with3 a λ book log tick.
+      (h : History) → LeftByCalls (now book) (now log) h → r ≡ numberIn (roomIn (record { book = now book; log = now log })) h (clock tick)
+  pub kerb-joined : CodeMeets joinedCall λ κs a r e. with3 a λ book one other.
+      (log : Log) (h : History) → LeftByCalls (now book) log h → r .number ≡ unless (areCells one other) 3
+
+-- 2. joined, and the steps (RULES 4.4, 3.13)
+abbrev pub CodeJoined : Type 2
+CodeJoined =
+    CodeMeets joinedCall λ κs a r e. with3 a λ book one other.
+    (log : Log) (h : History) → LeftByCalls (now book) log h → areCells one other ≡ true →
+    ((r .yes ≡ true) ↔ Chained (windowOf h) one other)
+    × (r .steps ≡ stepsIn h one other)
+    × (r .steps ≤ 40)
+
+-- 2. link files: the reader, on what the writer wrote, and the writer, on what the reader took (RULES 6.5)
+pub record CodeFiles : Type 2 where
+  pub kerb-read : CodeMeets readCall λ κs a r e. with1 a λ file.
+      (s : Settings) (records out : Bytes) → FitsFields s → writeNumber s (length records) (length out) ≡ 0 →
+      now file ≡ take (8 * recordCount (length records) + endingSize) (outputOf s records out) →
+      r ≡ record { settings = s; m = recordCount (length records); number = 0 }
+  pub kerb-write : CodeMeets writeCall λ κs a r e. with3 a λ s records out. with3 e λ s′ records′ out′.
+      (file : Bytes) → AreBytes file → readOf file .number ≡ 0 → length file ≤ length (now out) →
+      s ≡ readOf file .settings → now records ≡ take (8 * readOf file .m) file → (r ≡ 0) × (now out′ ≡ atFront file (now out))
+
+-- 3. chain (RULES 5)
+abbrev pub CodeChain : Type 2
+CodeChain =
+    CodeMeets chainCall λ κs a r e. with5 a λ book log one other chain. with5 e λ book′ log′ one′ other′ chain′.
+    (h : History) → LeftByCalls (now book) (now log) h → has chainPlaces (now chain) ≡ true → areCells one other ≡ true →
+    Answers ours (record { book = now book; log = now log }) h (now chain) one other (record { answer = r; chain = now chain′ })
