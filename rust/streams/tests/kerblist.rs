@@ -10,9 +10,11 @@ use std::process::{Command, Stdio};
 use streams::files::{damage, edge_files, every_field, valid_file};
 use streams::Dice;
 
+const SCRIPT: &str = concat!(env!("CARGO_MANIFEST_DIR"), "/../../kerblist");
+const ROOT: &str = concat!(env!("CARGO_MANIFEST_DIR"), "/../..");
+
 fn kerblist(file: &[u8]) -> (String, Option<i32>) {
-    let script = concat!(env!("CARGO_MANIFEST_DIR"), "/../../kerblist");
-    let mut program = Command::new(script)
+    let mut program = Command::new(SCRIPT)
         .stdin(Stdio::piped())
         .stdout(Stdio::piped())
         .stderr(Stdio::piped())
@@ -66,5 +68,105 @@ fn kerblist_prints_what_the_oracle_prints() {
         "refused 4",
     ] {
         assert!(seen.contains_key(wanted), "no file was {}", wanted);
+    }
+}
+
+/// A line of a shell, in the repository's folder: its status, standard output and standard error.
+fn shell(line: &str) -> (Option<i32>, String, String) {
+    let mut shell = Command::new("bash");
+    shell.args(["-c", line]).current_dir(ROOT);
+    let output = shell.output().expect("bash starts");
+    let text = |bytes| String::from_utf8(bytes).expect("text");
+    (
+        output.status.code(),
+        text(output.stdout),
+        text(output.stderr),
+    )
+}
+
+/// What cannot be read or written, and wrong use: status 3, nothing listed, and a message.
+#[test]
+fn kerblist_complains() {
+    for (line, message) in [
+        (
+            "./kerblist samples/no_such.kerb",
+            "kerblist: samples/no_such.kerb cannot be read: there is no such file\n",
+        ),
+        (
+            "./kerblist samples",
+            "kerblist: samples cannot be read: it is a directory\n",
+        ),
+        (
+            "./kerblist <samples",
+            "kerblist: standard input cannot be read\n",
+        ),
+        (
+            "./kerblist <&-",
+            "kerblist: standard input cannot be read\n",
+        ),
+        (
+            "./kerblist --frob",
+            "kerblist: there is no option --frob: kerblist [FILE]\n",
+        ),
+        (
+            "./kerblist samples/document.kerb samples/mirrored.kerb",
+            "kerblist: it lists one file: kerblist [FILE]\n",
+        ),
+        (
+            "./kerblist samples/document.kerb >/dev/full",
+            "kerblist: standard output cannot be written\n",
+        ),
+        (
+            "./kerblist samples/document.kerb >&-",
+            "kerblist: standard output cannot be written\n",
+        ),
+        (
+            "./kerblist --help >/dev/full",
+            "kerblist: standard output cannot be written\n",
+        ),
+        (
+            "(sleep 0.2; ./kerblist samples/document.kerb; exit $?) | true; exit ${PIPESTATUS[0]}",
+            "kerblist: standard output cannot be written\n",
+        ),
+    ] {
+        let said = shell(line);
+        assert_eq!(
+            said,
+            (Some(3), String::new(), message.to_string()),
+            "{}",
+            line
+        );
+    }
+}
+
+/// A refusal in words, a gigabyte of zeros, help, standard input by its name, and a call through a link from elsewhere.
+#[test]
+fn kerblist_answers() {
+    let refused = "refused 9 in the file: the length is that of no link file, or of no records\n";
+    let zeros = shell("head -c 1G /dev/zero | ./kerblist");
+    assert_eq!(
+        zeros,
+        (Some(2), "refused 9 file\n".to_string(), refused.to_string())
+    );
+
+    let record = shell("./kerblist samples/tick_before_the_time.kerb");
+    let words = "refused 4 at record 2: the tick is before the book's time\n";
+    assert_eq!(
+        record,
+        (Some(2), "refused 4 2\n".to_string(), words.to_string())
+    );
+
+    let help = shell("./kerblist --help");
+    assert_eq!(help.0, Some(0));
+    assert!(help.1.starts_with("kerblist [FILE]: "), "{}", help.1);
+
+    let listing = shell("cat samples/document.listing").1;
+    for line in [
+        "./kerblist - <samples/document.kerb",
+        "./kerblist -- samples/document.kerb",
+        "link=$(mktemp -d)/kerblist; ln -s \"$PWD/kerblist\" \"$link\"; sample=$PWD/samples/document.kerb; \
+         cd /; \"$link\" \"$sample\"; status=$?; rm -r \"$(dirname \"$link\")\"; exit $status",
+    ] {
+        assert_eq!(shell(line), (Some(0), listing.clone(), String::new()), "{}", line);
     }
 }
