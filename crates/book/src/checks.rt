@@ -20,14 +20,7 @@ pub fn opening_number(s: Settings, log: &[u16]) -> u8
 }
 
 // For a book in order, given how many links it holds in the link's slide.
-pub fn link_number(
-    clock: Clock,
-    held: u16,
-    log: &[u16],
-    tick: u32,
-    one: u16,
-    other: u16,
-) -> u8
+pub fn link_number(clock: Clock, held: u16, log: &[u16], tick: u32, one: u16, other: u16) -> u8
     ensures { λ r. ⌜ r ≡ linkNumberIn true clock held (now (log .entry)) tick one other ⌝ }
 {
     if log.len() < 16384 {

@@ -2,25 +2,29 @@
 -- At each link the lists are in their ranges, since they hold a forest of links between cells; so one link more is graph's
 -- `unite` (the crate forest).
 use Prim.Native.Nat.{ℕ, _≤_, _<_}
-use mathlib.Core.Path.{_≡_, sym, _∙_, ap, subst⁻¹}
+use mathlib.Core.Path.{_≡_, _∙_, ap, subst⁻¹}
 use mathlib.Core.Bool.{true}
 use mathlib.Core.List.{List, [], _∷_, reverse, reverseAux}
 use native.Mathlib.Omega.{arith}
 use native.Mathlib.Nat.{le-refl}
+use borrow.Author.Tests.{le-leb}
+use lib.Dec.{leb}
 use lib.ListN.{length, length-replicate}
-use borrow.Author.Tests.{eq-eqb}
-use Rattle.graph.specs.Forest.{Forest, Labelled, Each, empty, also, EndsBelow, walk, unite, forestOf}
-use Rattle.graph.proofs.Forests.{walk-ends, size-positive, size-bounded, parent-below}
-use Rattle.forest.specs.Arrays.{places, parentIn, sizeIn, held}
+use Rattle.graph.specs.Forest.{Labelled, Each, empty, also, EndsBelow, unite, forestOf}
+use Rattle.graph.proofs.Cut.{label-bounded}
+use Rattle.graph.proofs.Forests.{grown}
+use Rattle.graph.proofs.Sizes.{Grown}
+use Rattle.forest.specs.Arrays.{places, parentIn, sizeIn, labelIn, held}
 use Rattle.forest_unite.specs.United.{mergeOf}
-use Rattle.forest_check.specs.Sound.{soundOf, ends}
+use Rattle.forest_check.specs.Sound.{soundOf, labelsWithin}
+use Rattle.forest_check.proofs.Every.{each-every}
 use Rattle.forest_unite.specs.declared.Merge.{Merge}
 use Rattle.forest.proofs.Fill.{length-countFrom}
 use Rattle.forest.proofs.Ranged.{Ranged}
-use Rattle.forest_check.proofs.Facts.{ranged-sound}
 use Rattle.forest.proofs.Held.{held-fresh}
 use Rattle.forest_unite.proofs.United.{held-unite, stored-length}
 use Rattle.book_state.specs.Arrays.{cells, stepLimit, Arrays, freshArrays, united, unitedAll}
+use Rattle.book_state.proofs.Grown.{GrownIn, relabelled, grown-ranged, grown-sound}
 
 -- ---- each of a list, from its end
 
@@ -35,25 +39,26 @@ each-reverse ps = each-onto ps empty
 
 module _ (ps ss : List ℕ) {xs : List Labelled} (long : (length ps ≡ places) × (length ss ≡ places))
     (parents : parentIn ps ≡ forestOf stepLimit xs .parent) (sizes : sizeIn ss ≡ forestOf stepLimit xs .size) (below : EndsBelow cells xs) where
-  enough : stepLimit ≤ stepLimit
-  enough = le-refl stepLimit
-
-  pub forest-ranged : Ranged cells ps ss
-  forest-ranged =
+  forest-grown : GrownIn ps ss
+  forest-grown =
       record {
-        parents-long = omega (arith, long .0);
-        sizes-long = omega (arith, long .1);
-        parent-below = λ c h. subst⁻¹ (λ up. up c < cells) parents (parent-below enough below c h);
-        size-from = λ c h. subst⁻¹ (λ size. 1 ≤ size c) sizes (size-positive enough below c);
-        size-to = λ c h. subst⁻¹ (λ size. size c ≤ cells) sizes (size-bounded enough below c);
+        parents-long = long .0;
+        sizes-long = long .1;
+        grown =
+            subst⁻¹ (λ up. Grown stepLimit (record { parent = up; size = sizeIn ss; label = labelIn [] })) parents
+            (subst⁻¹ (λ size. Grown stepLimit (record { parent = forestOf stepLimit xs .parent; size = size; label = labelIn [] })) sizes
+            (relabelled (labelIn []) (grown (le-refl stepLimit) below)));
       }
 
-  forest-ends : (c : ℕ) → ends (parentIn ps) stepLimit c ≡ true
-  unfolding walk
-  forest-ends c = subst⁻¹ (λ up. ends up stepLimit c ≡ true) parents (eq-eqb _ _ (walk-ends enough below c))
-
   pub forest-sound : soundOf ps ss stepLimit ≡ true
-  forest-sound = ranged-sound ps ss stepLimit (long .1 ∙ sym (long .0)) (rw (long .0) forest-ranged) (λ c h. forest-ends c)
+  forest-sound = grown-sound forest-grown
+
+-- labels are those of the links
+pub forest-labels : (ls : List ℕ) {xs : List Labelled} → labelIn ls ≡ forestOf stepLimit xs .label → EndsBelow cells xs
+    → (m : ℕ) → Each (λ x. x .label ≤ m) xs → labelsWithin ls m ≡ true
+forest-labels ls labels below m small =
+    each-every (λ c x. leb x m) ls
+    (λ c h. le-leb _ m (subst⁻¹ (λ label. label c ≤ m) labels (label-bounded (le-refl stepLimit) below m small c)))
 
 -- ---- links united one after the other
 
@@ -79,8 +84,8 @@ module _ (x : Labelled) {xs : List Labelled} {a : Arrays} (cell : (x .link .one 
     (ends : EndsBelow cells xs) (on : Holds xs a) where
   ranged : Ranged cells (a .parents) (a .sizes)
   ranged =
-      forest-ranged (a .parents) (a .sizes) (on .parents-long, on .sizes-long) (ap (λ f. f .parent) (on .holds))
-      (ap (λ f. f .size) (on .holds)) ends
+      grown-ranged
+      (forest-grown (a .parents) (a .sizes) (on .parents-long, on .sizes-long) (ap (λ f. f .parent) (on .holds)) (ap (λ f. f .size) (on .holds)) ends)
 
   as-forest : unite stepLimit (held (a .parents) (a .sizes) (a .labels)) x ≡ forestOf stepLimit (x ∷ xs)
   unfolding forestOf

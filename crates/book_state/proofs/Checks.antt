@@ -1,10 +1,11 @@
 -- The checks that several calls make: two cells, and a book for which number 1 is not given. Such a book is in order, test by
 -- test, and its log can be read.
-use Prim.Native.Nat.{ℕ, zero, suc, _≤_, _<_}
+use Prim.Native.Nat.{ℕ, zero, suc, _≤_, _<_, zero-le}
 use mathlib.Core.Path.{_≡_, refl, sym, _∙_}
 use mathlib.Core.Bool.{Bool, true, false, _&&_, and-eq-true-iff}
 use mathlib.Core.List.{List, [], _∷_}
 use native.Mathlib.Omega.{arith}
+use native.Mathlib.Nat.{suc-le-suc-iff}
 use native.Mathlib.Decide.{decLt}
 use borrow.Author.Tests.{leb-true, lt-ltb, le-ltb}
 use lib.ListN.{length, getD, List·getD-eq-default}
@@ -12,7 +13,7 @@ use Rattle.settings.specs.Settings.{heldInRange}
 use Rattle.slides.specs.Clock.{clockInRange}
 use Rattle.slides.proofs.Slides.{InRange, in-range}
 use Rattle.forest_check.specs.Sound.{every, within, soundOf, labelsWithin}
-use Rattle.forest_check.proofs.Every.{every-each, within-high}
+use Rattle.forest_check.proofs.Every.{every-each, each-every, within-high, within-both}
 use Rattle.book_state.specs.declared.Book.{Book}
 use Rattle.book_state.specs.Arrays.{cells, stepLimit}
 use Rattle.book_state.specs.Log.{Readable}
@@ -58,6 +59,18 @@ ordered b e =
     let w₁ = and-eq-true-iff t h .0 (w₂ .0) in
     record { timely = w₁ .0; held = w₁ .1; few = w₂ .1; forward = w₃ .1; backward = w₄ .1; labels = w₅ .1 }
 
+-- the test of the counts, for a spot within them or beyond
+pub counts-few : (counts : List ℕ) → every (within 0 257) 0 counts ≡ true → (spot : ℕ) → getD counts spot 0 ≤ 256
+counts-few counts e spot = within-or-beyond (decLt spot (length counts))
+  where
+    within-or-beyond : Dec (spot < length counts) → getD counts spot 0 ≤ 256
+    within-or-beyond (yes h) = omega (arith, within-high 0 257 spot (getD counts spot 0) (every-each (within 0 257) counts e spot h))
+    within-or-beyond (no h) = rw (List·getD-eq-default counts 0 {n = spot} (omega arith)) (omega arith)
+
+-- and the other way round
+pub few-counts : (counts : List ℕ) → ((spot : ℕ) → getD counts spot 0 ≤ 256) → every (within 0 257) 0 counts ≡ true
+few-counts counts few = each-every (within 0 257) counts (λ spot h. within-both 0 257 spot _ zero-le (suc-le-suc-iff .1 (few spot)))
+
 pub readable : (b : Book) (log : List ℕ) → inOrder b ≡ true → has logPlaces log ≡ true → Readable (b .clock .n) (b .counts) log
 readable b log e room =
     let o = ordered b e in
@@ -65,17 +78,9 @@ readable b log e room =
     record {
       n-least = clock .n-least;
       n-most = clock .n-most;
-      few = at-most (b .counts) (o .few);
+      few = counts-few (b .counts) (o .few);
       long = leb-true _ _ (sym (has-length logPlaces log) ∙ room);
     }
-  where
-    at-most : (counts : List ℕ) → every (within 0 257) 0 counts ≡ true → (spot : ℕ) → getD counts spot 0 ≤ 256
-    at-most counts e spot =
-        within-or-beyond (decLt spot (length counts))
-      where
-        within-or-beyond : Dec (spot < length counts) → getD counts spot 0 ≤ 256
-        within-or-beyond (yes h) = omega (arith, within-high 0 257 spot (getD counts spot 0) (every-each (within 0 257) counts e spot h))
-        within-or-beyond (no h) = rw (List·getD-eq-default counts 0 {n = spot} (omega arith)) (omega arith)
 
 -- a book that was never opened is not in order
 pub never-in-order : inOrder neverOpened ≡ false

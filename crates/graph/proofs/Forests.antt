@@ -107,7 +107,8 @@ module _ {k limit : ℕ} (enough : k ≤ limit) where
       go (yes e) = rw (eq-eqb a b e) (kept e)
       go (no n) = rw (ne-eqb a b n) (hang (goesUnder (f .size) a b) n refl)
 
-  united-grown : {f f′ : Forest} {x : Labelled} → Grown k f → United k limit f x f′ → Grown k f′
+  -- one link more keeps any forest grown, whatever made it
+  pub united-grown : {f f′ : Forest} {x : Labelled} → Grown k f → United k limit f x f′ → Grown k f′
   united-grown g (kept _) = g
   united-grown {x} g (hangs _ h) = merged-grown g h (x .label)
 

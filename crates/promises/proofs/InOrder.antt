@@ -2,28 +2,23 @@
 --
 -- The clock and the mounting of a history are in range. The lists hold forests of links between cells, with places as labels; the
 -- crate graph has the laws on the ranges and walks of such forests.
-use Prim.Native.Nat.{ℕ, _%_, _≤_, zero-le}
-use mathlib.Core.Path.{_≡_, ap, subst⁻¹}
+use Prim.Native.Nat.{ℕ, _%_, _≤_}
+use mathlib.Core.Path.{_≡_, ap}
 use mathlib.Core.Bool.{true}
 use native.Mathlib.Omega.{arith}
-use native.Mathlib.Nat.{le-refl, mod-lt, suc-le-suc-iff}
-use lib.Dec.{leb}
-use borrow.Author.Tests.{le-leb}
-use Rattle.graph.specs.Forest.{Forest, Each}
-use Rattle.graph.proofs.Cut.{label-bounded}
+use native.Mathlib.Nat.{mod-lt}
+use Rattle.graph.specs.Forest.{Each}
 use Rattle.settings.specs.Settings.{heldInRange}
 use Rattle.slides.specs.Clock.{clockInRange}
 use Rattle.slides.proofs.Slides.{InRange, in-range}
-use Rattle.forest.specs.Arrays.{labelIn}
-use Rattle.forest_check.specs.Sound.{every, within, labelsWithin}
-use Rattle.forest_check.proofs.Every.{each-every, within-both}
 use Rattle.book_state.specs.Order.{inOrder, inOrderOf}
 use Rattle.promises.specs.History.{Stored, History, backwardLinks}
 use Rattle.promises.specs.Implementation.{State}
 use Rattle.promises.specs.Agrees.{Sensible, Agrees}
 use Rattle.promises.proofs.BySlide.{labelBy}
 use Rattle.promises.proofs.Forests.{scanned, each-made, forward-ends, backward-ends}
-use Rattle.book_state.proofs.Built.{each-reverse, forest-sound}
+use Rattle.book_state.proofs.Built.{each-reverse, forest-sound, forest-labels}
+use Rattle.book_state.proofs.Checks.{few-counts}
 
 -- labels are places
 pub backward-labels : (h : History) → Sensible h → Each (λ x. x .label ≤ 15) (backwardLinks h)
@@ -36,23 +31,19 @@ backward-labels h sensible = each-reverse (each-made (labelBy (λ t. t % h .cloc
     place s = omega (arith, mod-lt (s .slide) (r .n-least), r .n-most)
 
 module _ {h : History} {s : State} (a : Agrees h s) where
-  label-most : (c : ℕ) → labelIn (s .book .«backward_label») c ≤ 15
-  label-most c =
-      subst⁻¹ (λ (f : Forest). f .label c ≤ 15) (a .backward)
-      (label-bounded (le-refl 10) (backward-ends (a .sensible)) 15 (backward-labels h (a .sensible)) c)
-
   pub agrees-in-order : inOrder (s .book) ≡ true
   unfolding inOrderOf
   agrees-in-order =
       simp (
         clock,
         settings,
-        counts,
+        few-counts (s .book .counts) (a .counts-few),
         forest-sound (s .book .«forward_parent») (s .book .«forward_size») (a .forward-long) (a .forward-parents) (a .forward-sizes)
             (forward-ends (a .sensible)),
         forest-sound (s .book .«backward_parent») (s .book .«backward_size») (a .backward-long .0, a .backward-long .1)
             (ap (λ f. f .parent) (a .backward)) (ap (λ f. f .size) (a .backward)) (backward-ends (a .sensible)),
-        labels,
+        forest-labels (s .book .«backward_label») (ap (λ f. f .label) (a .backward)) (backward-ends (a .sensible)) 15
+            (backward-labels h (a .sensible)),
       )
     where
       clock : clockInRange (s .book .clock) ≡ true
@@ -60,9 +51,3 @@ module _ {h : History} {s : State} (a : Agrees h s) where
 
       settings : heldInRange (s .book .clock .n) (s .book .clock .b) (s .book .fitting .mounting) ≡ true
       settings = rw (a .clock, a .fitting) (a .sensible .held)
-
-      counts : every (within 0 257) 0 (s .book .counts) ≡ true
-      counts = each-every (within 0 257) (s .book .counts) (λ i h. within-both 0 257 i _ zero-le (suc-le-suc-iff .1 (a .counts-few i)))
-
-      labels : labelsWithin (s .book .«backward_label») 15 ≡ true
-      labels = each-every (λ c x. leb x 15) (s .book .«backward_label») (λ c h. le-leb _ 15 (label-most c))

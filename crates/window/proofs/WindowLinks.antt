@@ -16,32 +16,12 @@ use Rattle.slides.specs.Clock.{openSlide}
 use Rattle.slides.specs.declared.Clock.{Clock}
 use Rattle.book_state.specs.Arrays.{cells}
 use Rattle.book_state.specs.Log.{Readable, pairAt, labelled, linksAt}
+use Rattle.book_state.proofs.LogLinks.{each-append, each-labelled, kept-cells}
 use Rattle.book_state.proofs.Passes.{Parts, counted-parts}
 use Rattle.window.specs.Window as window
 use Rattle.window.specs.Window.{windowSlides, linksOfAge, slideLinks, linksFromAge, windowLinks}
 use Rattle.window.specs.LabelsFall.{LabelsFall, none}
 use Rattle.window.proofs.Falling.{falls-higher, falls-slide}
-
-each-append : {P : Labelled → Type 0} {xs ys : List Labelled} → Each P xs → Each P ys → Each P (xs ++ ys)
-each-append empty qs = qs
-each-append (also p ps) qs = also p (each-append ps qs)
-
-each-labelled : (P : ℕ → Type 0) (label : ℕ) → P label → (ls : List Link) → Each (λ x. P (x .label)) (map (labelled label) ls)
-each-labelled P label p [] = empty
-each-labelled P label p (l ∷ ls) = also p (each-labelled P label p ls)
-
--- a pair with an entry that is no cell is no link
-kept-cells : (label : ℕ) (log : List ℕ) (at n : ℕ) → EndsBelow cells (map (labelled label) (linksAt log at n))
-unfolding linksAt
-kept-cells label log at zero = empty
-kept-cells label log at (suc n) = go (ltb (pairAt log at .one) cells) (ltb (pairAt log at .other) cells) refl refl (kept-cells label log (at + 2) n)
-  where
-    go : (t u : Bool) → ltb (pairAt log at .one) cells ≡ t → ltb (pairAt log at .other) cells ≡ u
-        → EndsBelow cells (map (labelled label) (linksAt log (at + 2) n))
-        → EndsBelow cells (map (labelled label) (cond (t && u) (pairAt log at ∷ linksAt log (at + 2) n) (linksAt log (at + 2) n)))
-    go true true p q on = also (ltb-true _ _ p, ltb-true _ _ q) on
-    go true false p q on = on
-    go false u p q on = on
 
 -- at most as many links as pairs
 links-few : (log : List ℕ) (at n : ℕ) → length (linksAt log at n) ≤ n

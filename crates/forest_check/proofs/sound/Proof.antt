@@ -64,7 +64,7 @@ returns-4 : tie.Need-returns-4
 returns-4 c =
     let e = c .before .before .before .before in
     let doubles = sym (c .before .doubles .ensures) ∙ c .if5 .taken in
-    simp (eq-eqb _ _ (long (e .before .before .before .before)), parents (e .before .before), sizes e, doubles-end _ _ _ (ranges e) doubles (quick (c .before .before) .1))
+    simp (eq-eqb _ _ (long (e .before .before .before .before)), parents (e .before .before), sizes e, doubles-end _ _ (ranges e) doubles _ (quick (c .before .before) .1))
 
 walks-end-requires : tie.Need-walks-end-requires
 walks-end-requires c κs = tt
