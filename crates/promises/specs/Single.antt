@@ -10,7 +10,7 @@ use Rattle.cells.specs.declared.Fitting.{Fitting}
 use Rattle.cells.specs.Cell.{mirror, lorryCell}
 use Rattle.slides.specs.Clock.{notBefore, slideOf, ticksOf, openSlide, chunkOf, placeOf, started, movedTo, clockInRange}
 use Rattle.slides.specs.declared.Clock.{Clock}
-use Rattle.forest.specs.Arrays.{places, freshParents, freshSizes, freshLabels, walkOf, walkAtOf, rootsOf, rootsAtOf}
+use Rattle.forest.specs.Arrays.{places, freshParents, freshSizes, freshLabels, parentAtIn, walkOf, walkAtOf, rootsOf}
 use Rattle.forest_unite.specs.United.{mergeOfRoots, mergeOf, mergedParents, mergedSizes, mergedLabels, United}
 use Rattle.forest_unite.specs.declared.Merge.{Merge}
 use Rattle.forest_check.specs.Sound.{every, within, soundOf, labelsWithin}
@@ -145,7 +145,8 @@ pub record Single : Type 0 where
   pub walk-at : (parent label : List ℕ) (limit cut cell : ℕ) → AtMostOne (λ r. r ≡ walkAtOf parent label limit cut cell)
   pub root : (parent : List ℕ) (limit cell : ℕ) → AtMostOne (λ r. r ≡ walkOf parent limit cell .root)
   pub roots : (parent : List ℕ) (limit : ℕ) → AtMostOne (λ r. r ≡ rootsOf parent limit places)
-  pub roots-at : (parent label : List ℕ) (limit cut : ℕ) → AtMostOne (λ r. r ≡ rootsAtOf parent label limit cut places)
+  pub up-inside : (parent label : List ℕ) (cut cell : ℕ) → AtMostOne (λ r. r ≡ parentAtIn parent label cut cell)
+  pub root-inside : (parent label : List ℕ) (limit cut cell : ℕ) → AtMostOne (λ r. r ≡ walkAtOf parent label limit cut cell .root)
   -- forest_unite
   pub merge-of-roots : (size : List ℕ) (a b : ℕ) → AtMostOne (λ r. r ≡ mergeOfRoots size a b)
   pub hang : (parent size : List ℕ) (limit one other : ℕ) → AtMostOne (λ r. r ≡ mergeOf parent size limit one other)
