@@ -151,12 +151,10 @@ fn across<'a>(
     if alone(backward, label, forward, cut, other) {
         return one == other;
     }
-    let backward_roots = walks::roots_at(backward, label, STEP_LIMIT, cut);
-    let forward_roots = walks::roots(forward, STEP_LIMIT);
-    forest_cross::joined_across(&backward_roots, &forward_roots, one, other)
+    forest_cross::joined_across(backward, label, forward, STEP_LIMIT, cut, one, other)
 }
 
-// Whether no parent step leaves or reaches the cell, in either forest. Two passes tell, which cost less than the roots of
+// Whether no parent step leaves or reaches the cell, in either forest. Two passes tell, which cost less than the lists of
 // all cells; a cell that takes a step itself is spared them.
 fn alone<'a>(backward: &'a [u16], label: &'a [u8], forward: &'a [u16], cut: u8, cell: u16) -> bool
     requires { ⌜ (length (now backward) ≡ cells) × (length (now label) ≡ cells) × (length (now forward) ≡ cells) × (cell < cells) ⌝ }
@@ -183,20 +181,21 @@ fn goes<'a>(parent: &'a [u16], label: &'a [u8], cut: u8, cell: u16) -> bool
     step.root != cell
 }
 
-// The same of one forest at a cut.
+// The same of one forest at a cut. The pass keeps a flag and goes on, with no way out: so a machine can do several cells at a time.
 fn alone_in<'a>(parent: &'a [u16], label: &'a [u8], cut: u8, asked: u16) -> bool
     requires { ⌜ (length (now parent) ≡ cells) × (length (now label) ≡ cells) ⌝ }
     ensures { λ r. ⌜ r ≡ aloneIn (parentAtIn (now (parent .entry)) (now (label .entry)) cut) asked ⌝ }
 {
+    let mut fine = true;
     let mut cell: u16 = 0;
     while cell < CELLS {
         let at = cell as usize;
         if !spares(asked, cell, parent[at], label[at], cut) {
-            return false;
+            fine = false;
         }
         cell += 1;
     }
-    true
+    fine
 }
 
 // Whether the cell asked for is this cell and its own parent at the cut, or neither this cell nor its parent. The label is

@@ -1,16 +1,17 @@
 -- The lists hold a forest of the crate graph: fresh lists hold `fresh`, and the walks are its walks.
-use Prim.Native.Nat.{ℕ, zero, suc, _<_}
+use Prim.Native.Nat.{ℕ, zero, suc, _<_, zero-le}
 use mathlib.Core.Path.{_≡_, refl, _∙_, fun-ext}
 use mathlib.Core.Bool.{Bool, true, false, cond}
 use mathlib.Core.List.{List}
 use native.Mathlib.Omega.{arith}
 use native.Mathlib.Nat.{zero-add}
 use native.Mathlib.Decide.{decLe}
+use borrow.Author.Tests.{le-ltb}
 use lib.Dec.{eqb}
 use lib.ListN.{getD, replicate, List·getD-eq-default}
 use Rattle.graph.specs.Forest as graph
 use Rattle.graph.specs.Forest.{climb, fresh, walk, walkAt}
-use Rattle.forest.specs.Arrays.{parentIn, parentAtIn, held, freshParents, freshSizes, freshLabels, walked, walkOf, walkAtOf, rootsOf, rootsAtOf}
+use Rattle.forest.specs.Arrays.{parentIn, labelIn, parentAtIn, held, freshParents, freshSizes, freshLabels, walked, walkOf, walkAtOf, rootsOf, rootsAtOf}
 use Rattle.forest.proofs.Fill.{getD-countFrom, length-countFrom, getD-each}
 
 -- ---- fresh lists
@@ -48,6 +49,10 @@ roots-entry ps limit n = getD-each (λ c. climb (parentIn ps) limit c .root) n
 
 pub rootsAt-entry : (ps ls : List ℕ) (limit cut n c d : ℕ) → c < n → getD (rootsAtOf ps ls limit cut n) c d ≡ walkAtOf ps ls limit cut c .root
 rootsAt-entry ps ls limit cut n = getD-each (λ c. climb (parentAtIn ps ls cut) limit c .root) n
+
+-- at cut 0 every step is taken
+pub uncut : (ps ls : List ℕ) → parentAtIn ps ls 0 ≡ parentIn ps
+uncut ps ls = fun-ext (λ c. rw (le-ltb (labelIn ls c) 0 zero-le))
 
 -- a walk stays among the cells
 cond-root : {n : ℕ} (t : Bool) (v w : graph.Walk) → v .root < n → w .root < n → cond t v w .root < n

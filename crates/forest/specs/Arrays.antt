@@ -3,11 +3,11 @@
 --
 -- A cell beyond a list is its own root, of size 1, with the label 0. So fresh lists hold exactly `fresh`, and a store is
 -- exactly `put`.
-use Prim.Native.Nat.{ℕ, zero, suc}
+use Prim.Native.Nat.{ℕ, zero, suc, _<_, _≤_}
 use mathlib.Core.Bool.{cond}
 use mathlib.Core.List.{List, [], _∷_, map}
 use lib.Dec.{ltb}
-use lib.ListN.{getD, replicate}
+use lib.ListN.{length, getD, replicate}
 use Rattle.numbers.specs.Kinds.{Cell, Label, Labels, Parents, Sizes}
 use Rattle.graph.specs.Forest as graph
 use Rattle.graph.specs.Forest.{Forest, climb}
@@ -69,3 +69,8 @@ rootsOf ps limit n = map (λ c. climb (parentIn ps) limit c .root) (freshParents
 
 abbrev pub rootsAtOf : (parents : Parents) (labels : Labels) (limit : ℕ) (cut : Label) (n : ℕ) → List Cell
 rootsAtOf ps ls limit cut n = map (λ c. climb (parentAtIn ps ls cut) limit c .root) (freshParents n)
+
+-- each cell's parent is a cell and its step has a label, the cells being as many as the list has places
+pub record ParentsAreCells (parents : Parents) (labels : Labels) : Type 0 where
+  pub inside : (cell : Cell) → cell < length parents → parentIn parents cell < length parents
+  pub labelled : length parents ≤ length labels

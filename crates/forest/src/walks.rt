@@ -1,6 +1,8 @@
 // Walks: from a cell to its root along the parents, in at most `limit` steps.
 ghost use mathlib.Core.Path.{_≡_};
-ghost use Rattle.forest.specs.Arrays.{places, parentIn, labelIn, parentAtIn, walkOf, walkAtOf, rootsOf, rootsAtOf};
+ghost use Prim.Native.Nat.{_<_};
+ghost use lib.ListN.{length};
+ghost use Rattle.forest.specs.Arrays.{places, parentIn, labelIn, parentAtIn, walkOf, walkAtOf, rootsOf, ParentsAreCells};
 use super::PLACES;
 use super::Walk;
 
@@ -55,14 +57,6 @@ pub fn walk(parent: &[u16], limit: u8, cell: u16) -> Walk
     walk_at(parent, &none, limit, 0, cell)
 }
 
-// The root alone, at a cut.
-fn root_at<'a>(parent: &'a [u16], label: &'a [u8], limit: u8, cut: u8, cell: u16) -> u16
-    ensures { λ r. ⌜ r ≡ walkAtOf (now (parent .entry)) (now (label .entry)) limit cut cell .root ⌝ }
-{
-    let found = walk_at(parent, label, limit, cut, cell);
-    found.root
-}
-
 // The root alone, without a cut. It has a loop of its own: its answer comes back in a register, where a walk's goes through
 // memory, and each link asks for two roots.
 pub fn root(parent: &[u16], limit: u8, cell: u16) -> u16
@@ -94,15 +88,36 @@ pub fn roots(parent: &[u16], limit: u8) -> [u16; PLACES]
     found
 }
 
-// The root of each cell at a cut.
-pub fn roots_at<'a>(parent: &'a [u16], label: &'a [u8], limit: u8, cut: u8) -> [u16; PLACES]
-    ensures { λ r. ⌜ r ≡ rootsAtOf (now (parent .entry)) (now (label .entry)) limit cut places ⌝ }
+// The parent at a cut of a cell within the slices. The label is asked last: most cells are roots, and their labels say nothing.
+pub fn up_inside<'a>(parent: &'a [u16], label: &'a [u8], cut: u8, cell: u16) -> u16
+    requires { ⌜ (cell < length (now parent)) × (cell < length (now label)) ⌝ }
+    ensures { λ r. ⌜ r ≡ parentAtIn (now (parent .entry)) (now (label .entry)) cut cell ⌝ }
 {
-    let mut found = [0u16; PLACES];
-    let mut cell = 0;
-    while cell < PLACES {
-        found[cell] = root_at(parent, label, limit, cut, cell as u16);
-        cell += 1;
+    let at = cell as usize;
+    let above = parent[at];
+    if above == cell {
+        return cell;
     }
-    found
+    if label[at] < cut {
+        return cell;
+    }
+    above
+}
+
+// The root at a cut where each parent is known to be a cell: no step asks whether it is within the slices.
+pub fn root_inside<'a>(parent: &'a [u16], label: &'a [u8], limit: u8, cut: u8, cell: u16) -> u16
+    requires { ⌜ ParentsAreCells (now parent) (now label) × (cell < length (now parent)) ⌝ }
+    ensures { λ r. ⌜ r ≡ walkAtOf (now (parent .entry)) (now (label .entry)) limit cut cell .root ⌝ }
+{
+    let mut here = cell;
+    let mut steps: u8 = 0;
+    while steps < limit {
+        let above = up_inside(parent, label, cut, here);
+        if above == here {
+            return here;
+        }
+        here = above;
+        steps += 1;
+    }
+    here
 }

@@ -11,11 +11,15 @@ use borrow.Author.Tests.{eqb-true, eqb-false, not-true, not-false}
 use lib.Dec.{eqb}
 use lib.ListN.{length, getD, replicate}
 use Rattle.forest_cross.specs.Across.{Across, here, by-backward, by-forward, KeysAreCells, JoinedAcross}
-use Rattle.forest_cross.specs.Marks.{Met, Crossed, MayEnter}
+use Rattle.forest_cross.specs.Marks.{OneSide, Met, Crossed, MayEnter}
 
 -- a cell's group has a mark
 pub key-inside : {keys : List ℕ} {c group : ℕ} → KeysAreCells keys → c < length keys → group ≡ getD keys c 0 → group < length keys
 key-inside {c = c} k h e = rw e (k .inside c h)
+
+-- a cell's group is that of a root
+pub key-root : {keys next marks : List ℕ} {c group : ℕ} → OneSide keys next marks → c < length keys → group ≡ getD keys c 0 → getD keys group 0 ≡ group
+key-root {c = c} side h e = rw e (side .rooted c h)
 
 -- no group is marked yet
 none-marked : (n group : ℕ) → _≡_ {A = ℕ} (getD (replicate n 0) group 0) 0
@@ -23,8 +27,8 @@ none-marked zero group = refl
 none-marked (suc n) zero = refl
 none-marked (suc n) (suc group) = none-marked n group
 
-pub enters-unmarked : (n : ℕ) {keys : List ℕ} {group : ℕ} → group < length keys → MayEnter keys (replicate n 0) group
-enters-unmarked n {keys} {group} h = record { inside = h; unmarked = none-marked n group }
+pub enters-unmarked : (n : ℕ) {keys : List ℕ} {group : ℕ} → group < length keys → getD keys group 0 ≡ group → MayEnter keys (replicate n 0) group
+enters-unmarked n {keys} {group} h e = record { inside = h; root = e; unmarked = none-marked n group }
 
 module _ {own other m o : List ℕ} {one group : ℕ} (n : ℕ) (even : length other ≡ length own) (inside : one < length own) (e : group ≡ getD own one 0) (q : Crossed own other group (replicate n 0) (replicate n 0) m o) where
   -- a cell that has been met on one side has been met on the other

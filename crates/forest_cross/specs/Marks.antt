@@ -6,26 +6,27 @@ use mathlib.Core.Logic.{_⊎_}
 use mathlib.Core.List.{List}
 use lib.ListN.{length, getD}
 use Rattle.numbers.specs.Kinds.{Cell}
-use Rattle.buckets.specs.Listed.{Listed}
 use Rattle.forest_cross.specs.Across.{Across, KeysAreCells}
+use Rattle.forest_cross.specs.Groups.{ListedFrom}
 
--- what a crossing is lent of one side: each cell's key is a cell, the cells of each key are listed, and each key has a mark. The
--- lists and the marks may have more places than there are cells
-pub record OneSide (keys first next marks : List ℕ) : Type 0 where
+-- what a crossing is lent of one side: each cell's key is a cell, and its own key; the cells of each key are listed, and each key has a
+-- mark. The lists and the marks may have more places than there are cells
+pub record OneSide (keys next marks : List ℕ) : Type 0 where
   pub keyed : KeysAreCells keys
-  pub listed : Listed keys (length first) 0 first next
-  pub long : length keys ≤ length first
+  pub rooted : (c : ℕ) → c < length keys → getD keys (getD keys c 0) 0 ≡ getD keys c 0
+  pub listed : ListedFrom keys 0 next
   pub marked : length keys ≤ length marks
 
 -- both sides, of the same cells
-pub record BothSides (own first next other otherFirst otherNext ownMarks otherMarks : List ℕ) : Type 0 where
-  pub ownSide : OneSide own first next ownMarks
-  pub otherSide : OneSide other otherFirst otherNext otherMarks
+pub record BothSides (own next other otherNext ownMarks otherMarks : List ℕ) : Type 0 where
+  pub ownSide : OneSide own next ownMarks
+  pub otherSide : OneSide other otherNext otherMarks
   pub even : length other ≡ length own
 
--- a group may be entered: it is not marked yet
+-- a group may be entered: it is that of a root, and not marked yet
 pub record MayEnter (keys marks : List ℕ) (group : ℕ) : Type 0 where
   pub inside : group < length keys
+  pub root : getD keys group 0 ≡ group
   pub unmarked : getD marks group 0 ≡ 0
 
 -- the group has its mark

@@ -4,53 +4,92 @@ use crate::agreement;
 use crate::any_book::AnyBook;
 use crate::components::Components;
 use crate::library::Library;
-use crate::same_method::SameMethod;
+use crate::peer::Peer;
 use crate::search::Search;
 use crate::timing;
-use crate::workload::Workload;
+use crate::workload::{Kind, Workload, KINDS};
 
 pub struct Contender {
     pub name: &'static str,
     pub what: &'static str,
-    pub finds_chains: bool,
+    /// The calls in which it is compared.
+    pub kinds: &'static [Kind],
     /// Stops the program where an answer is not the library's.
     pub check: fn(&Workload, &str),
     /// Plays a workload and lowers the least time of each batch.
     pub play: fn(&Workload, &mut [u64]),
 }
 
-fn contender<C: AnyBook>(name: &'static str, what: &'static str) -> Contender {
+fn contender<C: AnyBook>(
+    name: &'static str,
+    what: &'static str,
+    kinds: &'static [Kind],
+) -> Contender {
     Contender {
         name,
         what,
-        finds_chains: C::FINDS_CHAINS,
+        kinds,
         check: agreement::check::<C>,
         play: timing::play::<C>,
     }
 }
 
-pub fn all() -> [Contender; 6] {
+/// The peer of each call: the quickest method that we know, and by which (a), and (b) without number 1, make it.
+pub const METHODS: [(&str, &str); 5] = [
+    (
+        Kind::Link.name(),
+        "two walks in the forest in place; number 1 by the size test",
+    ),
+    (
+        Kind::ChunkEnd.name(),
+        "scratch parents beside the forest, shortened as they go, find the roots",
+    ),
+    (
+        Kind::Joined.name(),
+        "the backward steps united with the forward groups in scratch memory; (a') by two functions that call each other",
+    ),
+    (
+        Kind::Chain.name(),
+        "links united newest first until the two meet; then a search by levels over the links from L on, up to the first cell",
+    ),
+    (
+        "kerblist",
+        "number 1 asked at no record; groups by links united newest first",
+    ),
+];
+
+pub fn all() -> [Contender; 7] {
     [
         contender::<Library>(
             "library",
             "the proved library through its safe Rust wrapper",
+            &KINDS,
         ),
-        contender::<SameMethod<true>>(
+        contender::<Peer<true, true>>(
             "(a)",
-            "the same method with the same checks in plain Rust, in place",
+            "plain Rust with the same checks, each call by the quickest method that we know",
+            &KINDS,
         ),
-        contender::<SameMethod<false>>("(b)", "the same without the check of number 1"),
+        contender::<Peer<true, false>>(
+            "(a')",
+            "(a) with a crossing by two functions that call each other, as the library's",
+            &[Kind::Joined],
+        ),
+        contender::<Peer<false, true>>("(b)", "(a) without the check of number 1", &KINDS),
         contender::<Components<true>>(
             "(c)",
             "connected components recomputed for each change of the window (union-find); no steps, no chain, no number 1",
+            &[Kind::Link, Kind::ChunkEnd, Kind::Joined],
         ),
         contender::<Components<false>>(
             "(c')",
             "its sibling that adds links and rebuilds once a slide",
+            &[Kind::Link, Kind::ChunkEnd, Kind::Joined],
         ),
         contender::<Search>(
             "(d)",
             "a search of the window's links for each question; no steps, no number 1",
+            &KINDS,
         ),
     ]
 }

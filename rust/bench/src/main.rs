@@ -10,8 +10,8 @@ mod contenders;
 mod library;
 mod listings;
 mod machine;
+mod peer;
 mod report;
-mod same_method;
 mod scenes;
 mod script;
 mod search;
@@ -64,6 +64,8 @@ fn report(contenders: &[Contender], workloads: &[Workload]) {
         ("dense, 8,000 records", file(&file_of_dense, 8_000)),
     ];
     report::compare(contenders, workloads);
+    println!("\n## The peer of each call\n");
+    report::print_methods();
     println!("\n## The library's time over that of each baseline\n");
     report::print_ratios(contenders, workloads, &files);
 

@@ -1,6 +1,6 @@
 //! What is measured for each table, and its rows.
 
-use crate::contenders::Contender;
+use crate::contenders::{Contender, METHODS};
 use crate::listings::{self, Named};
 use crate::stack::LEAST;
 use crate::stacks;
@@ -34,15 +34,21 @@ fn measure<'a>(contenders: &'a [Contender], workloads: &'a [Workload]) -> Vec<Me
 impl Measured<'_> {
     /// Times of the calls of one kind, as far as the workload has such calls.
     fn times(&self, kind: Kind) -> Times {
-        let has_it = |contender: &Contender| kind != Kind::Chain || contender.finds_chains;
         let contenders = self.contenders.iter().zip(&self.least);
         contenders
             .map(|(contender, least)| {
                 let time = per_call(self.workload, least, kind);
-                time.filter(|_| has_it(contender))
+                time.filter(|_| contender.kinds.contains(&kind))
             })
             .collect()
     }
+}
+
+/// By which method the peer makes each call.
+pub fn print_methods() {
+    let row = |&(call, method): &(&str, &str)| vec![call.to_string(), method.to_string()];
+    let rows: Vec<Vec<String>> = METHODS.iter().map(row).collect();
+    print(&["call", "the peer's method"], 2, &rows);
 }
 
 /// Stops where someone's answers differ from the library's.

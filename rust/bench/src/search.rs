@@ -1,5 +1,6 @@
-//! Baseline (d): nothing is kept but the window's links, and each question is a search of them. For the chain: L by bisection,
-//! a search for each try; then the fewest links; then the first by cell numbers. It counts no steps.
+//! Baseline (d): nothing is kept but the window's links, and each question is a search of them. For the chain a search from the first cell over
+//! the newest slide's links, that goes on as each older slide's are added: the slide at which it meets the second cell is L, and nothing
+//! older is looked at; then the fewest links, then the first by cell numbers. It counts no steps.
 
 use crate::any_book::{chain_refused, joined_refused, AnyBook};
 use crate::window::{are_cells, Link, Window, CELLS};
@@ -9,43 +10,42 @@ use kerb::Settings;
 /// Ends a list.
 const NONE: u16 = u16::MAX;
 
-/// The neighbours of each cell as lists: place 2i is the second cell of link i, in the list of the first; 2i + 1 the other way
-/// round.
+/// The neighbours of each cell as lists. The memory is kept from question to question.
 struct Neighbours {
     first: [u16; CELLS],
-    next: Vec<u16>,
-    cell: Vec<u16>,
+    /// Of each place the next one of its list, and its cell.
+    places: Vec<(u16, u16)>,
 }
 
 impl Neighbours {
-    fn by<'a>(links: impl Iterator<Item = &'a Link>) -> Neighbours {
-        let mut neighbours = Neighbours {
+    fn none() -> Neighbours {
+        Neighbours {
             first: [NONE; CELLS],
-            next: Vec::with_capacity(8192),
-            cell: Vec::with_capacity(8192),
-        };
-        for link in links {
-            neighbours.add(link.one, link.other);
-            neighbours.add(link.other, link.one);
+            places: Vec::with_capacity(8192),
         }
-        neighbours
     }
 
-    fn add(&mut self, of: u16, neighbour: u16) {
-        let place = self.cell.len() as u16;
-        self.cell.push(neighbour);
-        self.next
-            .push(std::mem::replace(&mut self.first[usize::from(of)], place));
+    fn clear(&mut self) {
+        self.first = [NONE; CELLS];
+        self.places.clear();
+    }
+
+    fn add(&mut self, link: &Link) {
+        self.add_one(link.one, link.other);
+        self.add_one(link.other, link.one);
+    }
+
+    fn add_one(&mut self, of: u16, neighbour: u16) {
+        let place = self.places.len() as u16;
+        let next = std::mem::replace(&mut self.first[usize::from(of)], place);
+        self.places.push((next, neighbour));
     }
 
     fn of(&self, cell: u16) -> impl Iterator<Item = u16> + '_ {
         let mut place = self.first[usize::from(cell)];
         std::iter::from_fn(move || {
-            if place == NONE {
-                return None;
-            }
-            let neighbour = self.cell[usize::from(place)];
-            place = self.next[usize::from(place)];
+            let &(next, neighbour) = self.places.get(usize::from(place))?;
+            place = next;
             Some(neighbour)
         })
     }
@@ -60,9 +60,10 @@ impl Neighbours {
         while head < tail && far[usize::from(to)] == 0 {
             let cell = queue[head];
             head += 1;
+            let further = far[usize::from(cell)] + 1;
             for met in self.of(cell) {
                 if far[usize::from(met)] == 0 {
-                    far[usize::from(met)] = far[usize::from(cell)] + 1;
+                    far[usize::from(met)] = further;
                     queue[tail] = met;
                     tail += 1;
                 }
@@ -71,60 +72,54 @@ impl Neighbours {
         far
     }
 
-    fn chain(&self, one: u16, other: u16) -> bool {
-        self.search(one, other)[usize::from(other)] != 0
+    /// Goes on from cells that were just reached, as far as it can.
+    fn spread(&self, met: &mut [bool; CELLS], reached: &mut Vec<u16>) {
+        while let Some(cell) = reached.pop() {
+            if !std::mem::replace(&mut met[usize::from(cell)], true) {
+                reached.extend(self.of(cell).filter(|&next| !met[usize::from(next)]));
+            }
+        }
     }
 }
 
 pub struct Search {
     window: Window,
+    neighbours: Neighbours,
 }
 
 impl Search {
-    /// The links of slide L on.
-    fn links_from(&self, slide: u64) -> impl Iterator<Item = &Link> {
-        self.window
-            .links()
-            .rev()
-            .take_while(move |link| slide <= link.slide)
-    }
-
-    fn joined_from(&self, slide: u64, one: u16, other: u16) -> bool {
-        Neighbours::by(self.links_from(slide)).chain(one, other)
-    }
-
-    /// L: links from it on chain the two, those from the next slide on do not. What older slides chain newer ones need not.
-    fn newest(&self, one: u16, other: u16) -> Option<u64> {
-        let open = self.window.open_slide();
-        if one == other {
-            return Some(open + 1);
-        }
-        let oldest = (open + 1).saturating_sub(self.window.n());
-        if !self.joined_from(oldest, one, other) {
-            return None;
-        }
-        let (mut chained, mut not) = (oldest, open + 1);
-        while chained + 1 < not {
-            let middle = (chained + not) / 2;
-            if self.joined_from(middle, one, other) {
-                chained = middle;
-            } else {
-                not = middle;
+    /// L: links from it on chain the two, those from the next slide on do not. They are then listed, and no others.
+    fn newest(&mut self, one: u16, other: u16) -> Option<u64> {
+        self.neighbours.clear();
+        let mut met = [false; CELLS];
+        let mut reached = vec![one];
+        let mut links = self.window.links().rev().peekable();
+        while let Some(&&Link { slide, .. }) = links.peek() {
+            while let Some(link) = links.next_if(|link| link.slide == slide) {
+                self.neighbours.add(link);
+                match (met[usize::from(link.one)], met[usize::from(link.other)]) {
+                    (true, false) => reached.push(link.other),
+                    (false, true) => reached.push(link.one),
+                    _ => (),
+                }
+            }
+            self.neighbours.spread(&mut met, &mut reached);
+            if met[usize::from(other)] {
+                return Some(slide);
             }
         }
-        Some(chained)
+        None
     }
 
-    /// The chain over the links from slide L on: from the first cell always the smallest neighbour one nearer to the second.
-    fn write_chain(&self, newest: u64, one: u16, other: u16, lent: &mut [u16]) -> u16 {
-        let neighbours = Neighbours::by(self.links_from(newest));
-        let far = neighbours.search(other, one);
+    /// The chain over the listed links: from the first cell always the smallest neighbour one nearer to the second.
+    fn write_chain(&self, one: u16, other: u16, lent: &mut [u16]) -> u16 {
+        let far = self.neighbours.search(other, one);
         let cells = far[usize::from(one)];
         let mut cell = one;
         lent[0] = cell;
         for (place, left) in (1..cells).rev().enumerate() {
-            cell = neighbours
-                .of(cell)
+            let nearer = self.neighbours.of(cell);
+            cell = nearer
                 .filter(|&met| far[usize::from(met)] == left)
                 .min()
                 .expect("a cell of the chain has a neighbour that is one nearer");
@@ -141,6 +136,7 @@ impl AnyBook for Search {
     fn opened(settings: Settings) -> Search {
         Search {
             window: Window::opened(settings),
+            neighbours: Neighbours::none(),
         }
     }
 
@@ -165,9 +161,14 @@ impl AnyBook for Search {
         if !are_cells(one, other) {
             return joined_refused(3);
         }
+        self.neighbours.clear();
+        for link in self.window.links() {
+            self.neighbours.add(link);
+        }
+        let far = self.neighbours.search(one, other);
         JoinedAnswer {
             number: 0,
-            yes: Neighbours::by(self.window.links()).chain(one, other),
+            yes: far[usize::from(other)] != 0,
             steps: 0,
         }
     }
@@ -179,12 +180,22 @@ impl AnyBook for Search {
         if !are_cells(one, other) {
             return chain_refused(3);
         }
+        let (open, n) = (self.window.open_slide(), self.window.n());
+        if one == other {
+            lent[0] = one;
+            return ChainAnswer {
+                newest: open + 1,
+                cells: 1,
+                hold: n as u8,
+                number: 0,
+            };
+        }
         match self.newest(one, other) {
             None => chain_refused(7),
             Some(newest) => ChainAnswer {
                 newest,
-                cells: self.write_chain(newest, one, other, lent),
-                hold: (newest + self.window.n() - 1 - self.window.open_slide()) as u8,
+                cells: self.write_chain(one, other, lent),
+                hold: (newest + n - 1 - open) as u8,
                 number: 0,
             },
         }

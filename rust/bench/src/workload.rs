@@ -17,7 +17,7 @@ pub enum Kind {
 pub const KINDS: [Kind; 4] = [Kind::Link, Kind::ChunkEnd, Kind::Joined, Kind::Chain];
 
 impl Kind {
-    pub fn name(self) -> &'static str {
+    pub const fn name(self) -> &'static str {
         match self {
             Kind::Link => "link",
             Kind::ChunkEnd => "clock over a chunk's end",

@@ -1,15 +1,14 @@
--- `book_joined::alone_in` meets its contract: a pass over the cells, with their parents at the cut, that stops at one that is
--- not apart.
+-- `book_joined::alone_in` meets its contract: a pass with a flag over the cells, with their parents at the cut.
 use Prim.Native.Nat.{_-_}
-use mathlib.Core.Path.{_≡_, refl, sym, ap, _∙_}
-use mathlib.Core.Bool.{true, cond}
+use mathlib.Core.Path.{_≡_, sym, ap, _∙_}
+use mathlib.Core.Bool.{cond}
 use native.Mathlib.Omega.{arith}
 use borrow.Author.Needs.{needs}
 use borrow.Author.Tests.{not-true, not-false}
 use lib.Dec.{ltb}
 use lib.ListN.{getD}
 use Rattle.forest.specs.Arrays.{freshParents, parentAtIn}
-use Rattle.forest_check.proofs.Every.{Tested, tested-none, tested-more, tested-all, struck, kept}
+use Rattle.forest_check.proofs.Every.{Tested, tested-none, tested-more, tested-all, flagged}
 use Rattle.forest.proofs.Fill.{getD-within, length-countFrom}
 use Rattle.book_state.specs.Arrays.{cells}
 use Rattle.book_joined.specs.Alone.{spares}
@@ -17,11 +16,11 @@ use Rattle.book_joined.proofs.alone_in.Statement.{statement}
 use Rattle.book_joined.proofs.alone_in.Tie as tie
 
 abbrev Inv-loop : tie.InvT-loop
-Inv-loop parent label cut asked cell₀ cell =
-    Tested (λ c _. spares asked c (parentAtIn parent label cut c)) (freshParents cells) true cell
+Inv-loop parent label cut asked fine₀ cell₀ fine cell =
+    Tested (λ c _. spares asked c (parentAtIn parent label cut c)) (freshParents cells) fine cell
 
 abbrev μ-loop : tie.MeasureT-loop
-μ-loop parent label cut asked cell₀ cell = cells - cell
+μ-loop parent label cut asked fine₀ cell₀ fine cell = cells - cell
 
 loop-holds : tie.Need-loop-holds Inv-loop μ-loop
 loop-holds c = tested-none
@@ -55,12 +54,6 @@ tested c =
     ∙ ap (λ p. spares (args .asked) cell (cond (ltb (getD (args .label .now) cell 0) (args .cut)) cell p))
     (getD-within (args .parent .now) cell 0 cell (rw (start .pre .0) (turn .loop-test .taken)))
 
-returns : tie.Need-returns Inv-loop μ-loop
-returns c =
-    let turn = c .before .before .before .before in
-    sym (tested-more (turn .before .loop .inv) (rw length-countFrom (turn .loop-test .taken))
-    (struck true (sym (tested (c .before)) ∙ not-true _ (c .if1 .taken)) refl) .rest)
-
 add-cell : tie.Need-add-cell Inv-loop μ-loop
 add-cell c = omega arith
 
@@ -71,10 +64,10 @@ loop-again : tie.Need-loop-again Inv-loop μ-loop
 loop-again c =
     let turn = c .before .before .before .before in
     tested-more (turn .before .loop .inv) (rw length-countFrom (turn .loop-test .taken))
-    (kept (sym (tested (c .before)) ∙ not-false _ (c .if1 .left)) refl)
+    (flagged (λ w. sym (tested (c .before)) ∙ not-true _ (w .taken)) (λ w. sym (tested (c .before)) ∙ not-false _ (w .left)) (c .if1 .came))
 
-returns-2 : tie.Need-returns-2 Inv-loop μ-loop
-returns-2 c = tested-all (c .before .loop .inv) (rw length-countFrom (c .loop-test .left))
+returns : tie.Need-returns Inv-loop μ-loop
+returns c = tested-all (c .before .loop .inv) (rw length-countFrom (c .loop-test .left))
 
 pub alone-in-spec : {M : Type 1} → statement M
 alone-in-spec =
@@ -88,8 +81,7 @@ alone-in-spec =
     shared-slice-read-spares
     shared-slice-read-spares-2
     spares-requires
-    returns
     add-cell
     loop-less
     loop-again
-    returns-2)
+    returns)

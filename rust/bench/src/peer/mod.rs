@@ -1,10 +1,12 @@
-//! Baselines (a) and (b): the library's own method in plain Rust, over a book that is altered in place. `CHECKED` says whether
-//! number 1 is asked at every call (a) or not (b); all other checks are made in both.
+//! The peers: the same calls on the same book in plain Rust, altered in place, each call by the quickest method that we know
+//! (`contenders::METHODS`). `CHECKED` says whether number 1 is asked at every call; all other checks are always made. `BY_UNIONS` says
+//! whether joined crosses by unions, or by two functions that call each other as the library's does.
 
 mod across;
 mod crossing;
 mod forest;
 mod listing;
+mod scratch;
 mod time;
 mod trail;
 
@@ -13,12 +15,13 @@ use forest::{every, Forest, Labelled, CELLS};
 use kerb::calls::{ChainAnswer, Clock, JoinedAnswer};
 use kerb::{Settings, CHAIN_PLACES, LOG_PLACES};
 pub use listing::list;
+use trail::write_chain;
 
 /// Places of a chunk's half in the counts and in the log, and links of a place.
 const PLACES: usize = 16;
 const LINKS: u16 = 256;
 
-pub struct SameMethod<const CHECKED: bool> {
+pub struct Peer<const CHECKED: bool, const BY_UNIONS: bool> {
     clock: Clock,
     mounting: u8,
     /// Links stored, at half * 16 + place; half = chunk mod 2.
@@ -30,7 +33,7 @@ pub struct SameMethod<const CHECKED: bool> {
     log: Vec<u16>,
 }
 
-impl<const CHECKED: bool> SameMethod<CHECKED> {
+impl<const CHECKED: bool, const BY_UNIONS: bool> Peer<CHECKED, BY_UNIONS> {
     /// Number 1: every field is in its range and no walk exceeds its steps.
     fn in_order(&self) -> bool {
         let clock = &self.clock;
@@ -75,12 +78,12 @@ impl<const CHECKED: bool> SameMethod<CHECKED> {
     }
 }
 
-impl<const CHECKED: bool> AnyBook for SameMethod<CHECKED> {
+impl<const CHECKED: bool, const BY_UNIONS: bool> AnyBook for Peer<CHECKED, BY_UNIONS> {
     const COUNTS_STEPS: bool = true;
     const FINDS_CHAINS: bool = true;
 
     fn opened(settings: Settings) -> Self {
-        SameMethod {
+        Peer {
             clock: Clock {
                 t0: settings.t0,
                 b: settings.b,
@@ -162,13 +165,12 @@ impl<const CHECKED: bool> AnyBook for SameMethod<CHECKED> {
         if CELLS as u16 <= one || CELLS as u16 <= other {
             return chain_refused(3);
         }
-        let links = self.window_links();
-        match links.highest_label(one, other) {
+        match self.newest(one, other) {
             None => chain_refused(7),
-            Some(label) => ChainAnswer {
-                newest: self.open_slide() + u64::from(label) - u64::from(self.clock.n),
-                cells: links.write_chain(label, one, other, lent),
-                hold: label - 1,
+            Some((newest, links)) => ChainAnswer {
+                newest,
+                cells: write_chain(&links, one, other, lent),
+                hold: (newest + u64::from(self.clock.n) - 1 - self.open_slide()) as u8,
                 number: 0,
             },
         }
@@ -180,14 +182,14 @@ mod tests {
     use super::*;
 
     /// The number that a clock call gives for a fresh book after an alteration.
-    fn number_after(alter: impl Fn(&mut SameMethod<true>)) -> u8 {
+    fn number_after(alter: impl Fn(&mut Peer<true, true>)) -> u8 {
         let settings = Settings {
             t0: 0,
             b: 10,
             n: 3,
             mounting: kerb::Mounting::Plain,
         };
-        let mut book = SameMethod::opened(settings);
+        let mut book = Peer::opened(settings);
         alter(&mut book);
         book.clock(5)
     }
@@ -216,7 +218,7 @@ mod tests {
 
     #[test]
     fn number_1_is_given_for_a_circle() {
-        let circle = |book: &mut SameMethod<true>| {
+        let circle = |book: &mut Peer<true, true>| {
             book.forward.parent[3] = 4;
             book.forward.parent[4] = 3;
         };

@@ -1,9 +1,10 @@
 //! Slides, chunks and places, and the step of time.
 
 use super::forest::{Forest, Labelled, CELLS};
-use super::{SameMethod, LINKS, PLACES};
+use super::scratch::Scratch;
+use super::{Peer, LINKS, PLACES};
 
-impl<const CHECKED: bool> SameMethod<CHECKED> {
+impl<const CHECKED: bool, const BY_UNIONS: bool> Peer<CHECKED, BY_UNIONS> {
     pub fn slide(&self, tick: u32) -> u64 {
         u64::from((tick - self.clock.t0) / self.clock.b)
     }
@@ -47,13 +48,15 @@ impl<const CHECKED: bool> SameMethod<CHECKED> {
 
     /// Places n - 1 down to 1 into the backward forest, in each place the last arrival first.
     fn scan_chunk(&mut self, half: usize) {
+        let mut scratch = Scratch::fresh();
         for place in (1..self.clock.n).rev() {
             let spot = half * PLACES + usize::from(place);
             let start = 2 * usize::from(LINKS) * spot;
             let count = usize::from(self.counts[spot]);
             for pair in self.log[start..start + 2 * count].chunks_exact(2).rev() {
                 if pair[0] < CELLS as u16 && pair[1] < CELLS as u16 {
-                    self.backward.unite(pair[0], pair[1], place);
+                    self.backward
+                        .unite_beside(&mut scratch, pair[0], pair[1], place);
                 }
             }
         }

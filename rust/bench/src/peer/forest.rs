@@ -1,5 +1,7 @@
 //! The forests in arrays, and number 1 (RULES 7.8) for one forest.
 
+use super::scratch::Scratch;
+
 pub const CELLS: usize = 1024;
 /// No walk may exceed this many steps.
 const MOST_STEPS: usize = 10;
@@ -41,32 +43,27 @@ impl Forest {
         }
     }
 
-    /// The root of each cell.
-    pub fn roots(&self) -> [u16; CELLS] {
-        let mut roots = [0; CELLS];
-        for (cell, root) in roots.iter_mut().enumerate() {
-            *root = self.walk(cell as u16).root;
+    /// One link more.
+    pub fn unite(&mut self, one: u16, other: u16) {
+        let one = self.walk(one).root;
+        let other = self.walk(other).root;
+        if one != other {
+            self.unite_roots(one, other);
         }
-        roots
     }
 
-    /// One link more: the root of the smaller tree goes under the other, on equal sizes the larger number. Gives that root, or
-    /// `None` where the two ends have one root already.
-    pub fn unite(&mut self, one: u16, other: u16) -> Option<usize> {
-        let one = usize::from(self.walk(one).root);
-        let other = usize::from(self.walk(other).root);
-        if one == other {
-            return None;
-        }
-        let one_goes_under = (self.size[one], other) < (self.size[other], one);
+    /// The root of the smaller tree goes under the other, on equal sizes the larger number. Gives that root and its new parent.
+    fn unite_roots(&mut self, one: u16, other: u16) -> (u16, u16) {
+        let size = |cell: u16| self.size[usize::from(cell)];
+        let one_goes_under = (size(one), other) < (size(other), one);
         let (child, top) = if one_goes_under {
             (one, other)
         } else {
             (other, one)
         };
-        self.parent[child] = top as u16;
-        self.size[top] += self.size[child];
-        Some(child)
+        self.parent[usize::from(child)] = top;
+        self.size[usize::from(top)] += self.size[usize::from(child)];
+        (child, top)
     }
 
     /// Number 1 for one forest: its arrays are within their ranges and no walk exceeds its steps. Where each step doubles a size
@@ -151,18 +148,14 @@ impl Labelled {
         }
     }
 
-    /// The root of each cell at a cut.
-    pub fn roots_at(&self, cut: u8) -> [u16; CELLS] {
-        let mut roots = [0; CELLS];
-        for (cell, root) in roots.iter_mut().enumerate() {
-            *root = self.walk_at(cut, cell as u16).root;
-        }
-        roots
-    }
-
-    pub fn unite(&mut self, one: u16, other: u16, label: u8) {
-        if let Some(child) = self.forest.unite(one, other) {
-            self.label[child] = label;
+    /// One link more, with the scratch beside the forest, which has the same root for every cell and finds it sooner.
+    pub fn unite_beside(&mut self, scratch: &mut Scratch, one: u16, other: u16, label: u8) {
+        let one = scratch.root(one);
+        let other = scratch.root(other);
+        if one != other {
+            let (child, top) = self.forest.unite_roots(one, other);
+            self.label[usize::from(child)] = label;
+            scratch.put_under(child, top);
         }
     }
 }
