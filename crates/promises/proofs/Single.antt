@@ -4,11 +4,13 @@
 use Prim.Native.Nat.{ℕ}
 use mathlib.Core.Path.{_≡_, refl, sym, _∙_}
 use mathlib.Core.List.{List, []}
+use Rattle.graph.specs.Forest.{Labelled}
 use Rattle.cells.specs.declared.Fitting.{Fitting}
 use Rattle.buckets.proofs.Listing.{one-listing}
 use Rattle.forest_cross.proofs.Joined.{one-answer}
 use Rattle.book.specs.Calls.{Outcome, Answer, Gives}
 use Rattle.file_play.specs.Play.{Play}
+use Rattle.window.specs.Gathered.{LinksPut}
 use Rattle.text.specs.Output.{WrittenAt}
 use Rattle.promises.specs.Single.{AtMostOne, FieldsGive, PlayGives, Single}
 
@@ -53,6 +55,15 @@ play-gives p r s f g = λ i.
 written : {text out : List ℕ} {at : ℕ} → AtMostOne {A = ℕ × List ℕ} (λ r. WrittenAt text at out (r .0) (r .1))
 written r s p q = both r s (p .until, p .bytes) (q .until, q .bytes)
 
+put : {links : List Labelled} {ones others labels : List ℕ}
+    → AtMostOne {A = ℕ × List ℕ × List ℕ × List ℕ} (λ r. LinksPut links 0 ones others labels (r .0) (r .1) (r .2) (r .3))
+put r s p q = λ i. (
+  equal (r .0) (s .0) (p .until) (q .until) i,
+  equal (r .1) (s .1) (p .first) (q .first) i,
+  equal (r .2) (s .2) (p .second) (q .second) i,
+  equal (r .3) (s .3) (p .third) (q .third) i,
+)
+
 pub single : Single
 single =
     record {
@@ -79,13 +90,11 @@ single =
       fields-link = λ b log tick one other. fields-give _;
       fields-clock = λ b log tick. fields-give _;
       joined = λ b one other. equal;
-      gather = λ clock counts log ones others labels r s p q i. (
-        equal (r .0) (s .0) (p .until) (q .until) i,
-        equal (r .1) (s .1) (p .first) (q .first) i,
-        equal (r .2) (s .2) (p .second) (q .second) i,
-        equal (r .3) (s .3) (p .third) (q .third) i,
-      );
+      window-slides = λ clock. equal;
+      gather = λ clock counts log ones others labels. put;
+      gather-newest = λ clock counts log slides ones others labels. put;
       grow = λ ones others labels count. equal;
+      newest-label = λ clock counts log one other. equal;
       best-trail = λ ones others one other chain r s p q. both r s (p .count, p .buffer) (q .count, q .buffer);
       chain = λ b log chain one other r s p q. both r s (p .answered, p .written) (q .answered, q .written);
       read = λ file. equal;
@@ -129,6 +138,13 @@ single =
       root = λ parent limit cell. equal;
       roots = λ parent limit. equal;
       roots-at = λ parent label limit cut. equal;
+      join = λ parent one other. both;
+      moved-root = λ root child top. equal;
+      smaller = λ one other. equal;
+      larger = λ one other. equal;
+      unite-beside = λ parent size label quick tops place one other r s p q i.
+          (let a = equal _ _ (p .0) (q .0) i in
+          (a .parents, a .sizes, a .labels, equal (r .3) (s .3) (p .1) (q .1) i, equal (r .4) (s .4) (p .2) (q .2) i));
       merge-of-roots = λ size a b. equal;
       hang = λ parent size limit one other. equal;
       merge-parents = λ parent h. equal;

@@ -1,6 +1,6 @@
 -- One result (RULES 10.1, 10.2): for each public contract, two results that it allows are equal. A result is what the call returns
 -- and what its lent buffers hold afterwards, on refusal too. Each line below quotes a contract.
-use Prim.Native.Nat.{ℕ}
+use Prim.Native.Nat.{ℕ, suc, min, max}
 use mathlib.Core.Path.{_≡_}
 use mathlib.Core.List.{List, _++_}
 use lib.ListN.{length, getD, drop, replicate}
@@ -13,6 +13,9 @@ use Rattle.slides.specs.declared.Clock.{Clock}
 use Rattle.forest.specs.Arrays.{places, freshParents, freshSizes, freshLabels, walkOf, walkAtOf, rootsOf, rootsAtOf}
 use Rattle.forest_unite.specs.United.{mergeOfRoots, mergeOf, mergedParents, mergedSizes, mergedLabels, United}
 use Rattle.forest_unite.specs.declared.Merge.{Merge}
+use Rattle.forest_scratch.specs.Scratch as scratch
+use Rattle.forest_scratch.specs.declared.Roots.{Roots}
+use Rattle.forest_beside.specs.Beside.{topsOf}
 use Rattle.forest_check.specs.Sound.{every, within, soundOf, labelsWithin}
 use Rattle.buckets.specs.Listed as lists
 use Rattle.forest_cross.specs.Across.{JoinedAcross}
@@ -30,14 +33,16 @@ use Rattle.listing.specs.declared.ListAnswer.{ListAnswer}
 use Rattle.listing.specs.Listing.{GivesListing, listingOf}
 use Rattle.book_state.specs.declared.Book.{Book}
 use Rattle.book.specs.declared.fields.FieldsAnswer.{FieldsAnswer}
-use Rattle.book_state.specs.Log.{halfOf, spotOf, storedIn}
+use Rattle.book_state.specs.Arrays.{arraysOf, united}
+use Rattle.book_state.specs.Log.{halfOf, spotOf, storedIn, labelled}
 use Rattle.book_state.specs.Order.{neverOpened, bookOf, inOrderOf}
-use Rattle.window.specs.Window.{windowLinks}
+use Rattle.window.specs.Window.{windowSlides, linksFromAge, windowLinks, highest}
 use Rattle.window.specs.Gathered.{LinksPut, arrayLinks}
 use Rattle.window.specs.LinkForest.{grownFrom}
 use Rattle.book_time.specs.Time.{Fresh, movedBook}
 use Rattle.book_joined.specs.Joined.{joinedOf}
 use Rattle.book.specs.Calls.{Outcome, Answer, Gives, GivesFields, openingOf, linkOf, clockOf}
+use Rattle.graph.specs.Forest.{put}
 use Rattle.graph.specs.Trail.{trailOf}
 use Rattle.chain_fewest.specs.Lists.{linksOf}
 use Rattle.chain_fewest.specs.Best.{TrailGiven}
@@ -87,9 +92,15 @@ pub record Single : Type 0 where
   -- book_joined, by value and over lent fields
   pub joined : (b : Book) (one other : ℕ) → AtMostOne (λ r. r ≡ joinedOf b one other)
   -- window
+  pub window-slides : (clock : Clock) → AtMostOne (λ r. r ≡ windowSlides clock)
   pub gather : (clock : Clock) (counts log ones others labels : List ℕ) →
       AtMostOne {A = ℕ × List ℕ × List ℕ × List ℕ} (λ r. LinksPut (windowLinks clock counts log) 0 ones others labels (r .0) (r .1) (r .2) (r .3))
+  pub gather-newest : (clock : Clock) (counts log : List ℕ) (slides : ℕ) (ones others labels : List ℕ) →
+      AtMostOne {A = ℕ × List ℕ × List ℕ × List ℕ} (λ r. LinksPut (linksFromAge clock counts log 0 slides) 0 ones others labels (r .0) (r .1) (r .2) (r .3))
   pub grow : (ones others labels : List ℕ) (count : ℕ) → AtMostOne (λ r. r ≡ grownFrom (arrayLinks ones others labels count))
+  -- chain_newest
+  pub newest-label : (clock : Clock) (counts log : List ℕ) (one other : ℕ) →
+      AtMostOne (λ r. r ≡ highest (suc (clock .n)) (windowLinks clock counts log) one other)
   -- chain_fewest
   pub best-trail : (ones others : List ℕ) (one other : ℕ) (chain : List ℕ) →
       AtMostOne {A = ℕ × List ℕ} (λ r. TrailGiven (trailOf (linksOf ones others) one other) chain (r .0) (r .1))
@@ -145,6 +156,18 @@ pub record Single : Type 0 where
   pub root : (parent : List ℕ) (limit cell : ℕ) → AtMostOne (λ r. r ≡ walkOf parent limit cell .root)
   pub roots : (parent : List ℕ) (limit : ℕ) → AtMostOne (λ r. r ≡ rootsOf parent limit places)
   pub roots-at : (parent label : List ℕ) (limit cut : ℕ) → AtMostOne (λ r. r ≡ rootsAtOf parent label limit cut places)
+  -- forest_scratch
+  pub join : (parent : List ℕ) (one other : ℕ) →
+      AtMostOne {A = Roots × List ℕ} (λ r. (r .0 ≡ scratch.rootsOf parent one other) × (r .1 ≡ scratch.joinOf parent one other))
+  pub moved-root : (root child top : ℕ) → AtMostOne (λ r. r ≡ put child top (λ c. c) root)
+  pub smaller : (one other : ℕ) → AtMostOne (λ r. r ≡ min one other)
+  pub larger : (one other : ℕ) → AtMostOne (λ r. r ≡ max one other)
+  -- forest_beside
+  pub unite-beside : (parent size label quick tops : List ℕ) (place one other : ℕ) →
+      AtMostOne {A = List ℕ × List ℕ × List ℕ × List ℕ × List ℕ}
+      (λ r.
+      (arraysOf (r .0) (r .1) (r .2) ≡ united (arraysOf parent size label) (labelled place (record { one = one; other = other })))
+      × (r .3 ≡ scratch.joinOf quick one other) × (r .4 ≡ topsOf (arraysOf parent size label) quick tops one other))
   -- forest_unite
   pub merge-of-roots : (size : List ℕ) (a b : ℕ) → AtMostOne (λ r. r ≡ mergeOfRoots size a b)
   pub hang : (parent size : List ℕ) (limit one other : ℕ) → AtMostOne (λ r. r ≡ mergeOf parent size limit one other)
