@@ -1,7 +1,7 @@
 -- The chain call, check by check, and the window's links as they are gathered.
 --
--- The label is that of the forest grown from the links (window), the links from it on are a front of the arrays (Front), and
--- the best trail is asked for over these. A window's oldest link is of slide 0 or later, so L is no less than 0.
+-- The links from the label on are those of the newest slides (window, `newest-are`). These alone are gathered, and the best trail is asked for
+-- over them. A window's oldest link is of slide 0 or later, so L is no less than 0.
 use Prim.Native.Nat.{ℕ, suc, _+_, _-_, _≤_, _<_}
 use mathlib.Core.Path.{_≡_, refl, sym, ap, _∙_}
 use mathlib.Core.Bool.{true, false, _&&_}
@@ -10,7 +10,7 @@ use native.Mathlib.Omega.{arith}
 use native.Mathlib.Decide.{decLe}
 use borrow.Author.Tests.{lt-ltb, le-ltb, le-leb, lt-leb}
 use lib.Dec.{leb}
-use lib.ListN.{length}
+use lib.ListN.{length, take}
 use Rattle.graph.specs.Link.{Chained}
 use Rattle.graph.specs.Forest.{Labelled}
 use Rattle.graph.specs.Trail.{trailOf}
@@ -24,17 +24,16 @@ use Rattle.numbers.specs.Checks.{firstOf, unless, has}
 use Rattle.book_state.specs.Numbers.{logPlaces}
 use Rattle.numbers.proofs.Checks.{passes, fails, last-passes, has-length}
 use Rattle.book_state.proofs.Checks.{both-cells, first-no-cell, second-no-cell}
-use Rattle.window.specs.Window.{windowLinks, linksFromLabel, highest}
-use Rattle.window.specs.Gathered.{LinksPut, arrayLinks}
-use Rattle.window.proofs.Gathered.{blank, Fronts, put-many, put-long, put-fronts, put-read}
+use Rattle.window.specs.Window.{windowSlides, linksFromAge, windowLinks, linksFromLabel}
+use Rattle.window.specs.Gathered.{LinksPut}
+use Rattle.window.proofs.Gathered.{blank, Fronts, put-many, put-long, put-fronts}
 use Rattle.window.proofs.Highest.{highest-exactly, highest-most}
-use Rattle.window.proofs.WindowLinks.{window-ends, window-falls, window-few, window-all, window-oldest}
+use Rattle.window.proofs.WindowLinks.{window-all, window-oldest, newestLinks, newest-ends, newest-few, newest-are}
 use Rattle.chain.specs.declared.ChainAnswer.{ChainAnswer}
 use Rattle.chain_fewest.specs.Lists.{linksOf}
 use Rattle.chain_fewest.specs.Best.{TrailAskable, TrailGiven}
-use Rattle.chain.specs.Front.{sideFromLabel, GatheredLinks}
 use Rattle.chain.specs.Chain.{chainPlaces, labelOf, chainCells, windowChecks, chainNumber, ChainOutcome, chainByNumber, chainOf, windowChain, GivesChain, ChecksPassed}
-use Rattle.chain.proofs.Front.{side-links, side-asked}
+use Rattle.chain.proofs.Sides.{front-links, front-asked}
 
 abbrev pub refusal : ℕ → ChainAnswer
 refusal k = record { newest = 0; cells = 0; hold = 0; number = k }
@@ -111,7 +110,7 @@ module _ {clock : Clock} {counts log chain : List ℕ} {one other : ℕ} (a : Ch
     pub unjoined : {r : ChainAnswer} → j ≡ 0 → r ≡ refusal 7 → GivesChain outcome r chain
     unjoined e same = refuses clock counts log chain one other (fails 6 _ (le-ltb 0 label (omega arith))) same refl
 
-    label-few : j ≤ suc (clock .n)
+    pub label-few : j ≤ suc (clock .n)
     label-few = rw is (highest-most links one other (suc (clock .n)))
 
     module _ (joined : 0 < j) where
@@ -151,38 +150,32 @@ module _ {clock : Clock} {counts log chain : List ℕ} {one other : ℕ} (a : Ch
               let first : Chained (linksFromLabel 1 links) one other = exactly 1 (omega arith) (omega arith) .1 (omega (arith, is)) in
               omega (arith, is, exactly (clock .n - openSlide clock) (omega arith) (omega arith) .0 (rw all first))
 
-  -- ---- the links as they are gathered
+      -- ---- the links as they are gathered
 
-  module _ {ones others labels : List ℕ} {count : ℕ} (put : LinksPut links 0 blank blank blank count ones others labels) where
-    few : length links ≤ 4096
-    few = window-few clock counts log (a .readable)
+      -- the slides from the label on are slides of the window
+      pub slides-fit : clock .n + 1 - j ≤ windowSlides clock
+      slides-fit = omega (arith, newest-is, label-few)
 
-    fronts : Fronts links count ones others labels
-    fronts = put-fronts put few
+      -- and their links are those that chain the two
+      newest : newestLinks clock counts log (clock .n + 1 - j) ≡ linksFromLabel j links
+      newest =
+          let e : suc (clock .n) - (clock .n + 1 - j) ≡ j = omega (arith, label-few) in
+          rw e at (sym (newest-are clock counts log (clock .n + 1 - j) slides-fit))
 
-    pub gathered : GatheredLinks ones others labels count (clock .n)
-    gathered =
-        record {
-          many = omega (arith, put-many put, few);
-          n-most = a .readable .n-most;
-          ends = rw (put-read put few) (window-ends clock counts log);
-          falls = rw (put-read put few) (window-falls clock counts log);
-        }
+      module _ {ones others labels : List ℕ} {count : ℕ}
+          (put : LinksPut (linksFromAge clock counts log 0 (clock .n + 1 - j)) 0 blank blank blank count ones others labels) where
+        few : length (linksFromAge clock counts log 0 (clock .n + 1 - j)) ≤ 4096
+        few = newest-few clock counts log (a .readable) _ slides-fit
 
-    pub label-is : {j : ℕ} → j ≡ highest (suc (clock .n)) (arrayLinks ones others labels count) one other → j ≡ label
-    label-is e = rw (put-read put few) at e
+        fronts : Fronts (linksFromAge clock counts log 0 (clock .n + 1 - j)) count ones others labels
+        fronts = put-fronts put few
 
-    pub room : (count ≤ length ones) × (count ≤ length others) × (count ≤ length labels)
-    room =
-        let l = put-long put in
-        (rw (← l .0) (gathered .many), rw (← l .1) (gathered .many), rw (← l .2) (gathered .many))
+        pub room : (count ≤ length ones) × (count ≤ length others)
+        room = let l = put-long put in (omega (arith, put-many put, few, l .0), omega (arith, put-many put, few, l .1))
 
-    module _ {j : ℕ} (is : j ≡ label) where
-      pub asked : 0 < j → TrailAskable (sideFromLabel j labels count ones) (sideFromLabel j labels count others) one other chain
-      asked joined =
-          side-asked (window-falls clock counts log) fronts j (window-ends clock counts log) few (a .one-cell) (a .other-cell) (a .chain-room) (chained is joined)
+        pub asked : TrailAskable (take count ones) (take count others) one other chain
+        asked = front-asked fronts (newest-ends clock counts log _) few (a .one-cell) (a .other-cell) (a .chain-room) (rw newest chained)
 
-      pub given : {r : ℕ} {after : List ℕ}
-          → TrailGiven (trailOf (linksOf (sideFromLabel j labels count ones) (sideFromLabel j labels count others)) one other) chain r after
-          → TrailGiven path chain r after
-      given g = rw (side-links (window-falls clock counts log) fronts j, is) at g
+        pub given : {r : ℕ} {after : List ℕ}
+            → TrailGiven (trailOf (linksOf (take count ones) (take count others)) one other) chain r after → TrailGiven path chain r after
+        given g = rw (front-links fronts, newest, is) at g

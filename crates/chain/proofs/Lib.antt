@@ -1,3 +1,3 @@
-pub mod Front
+pub mod Sides
 pub mod ChainCall
 pub mod Never

@@ -11,7 +11,7 @@ use native.Mathlib.Omega.{arith}
 use native.Mathlib.Decide.{ℕ-discrete}
 use native.Mathlib.Nat.{le-refl, zero-add}
 use borrow.Author.Tests.{eq-eqb, ne-eqb}
-use lib.ListN.{getD, set, length-set}
+use lib.ListN.{length, getD, set, length-set}
 use lib.Seq.{getD-set-same, getD-set-other}
 use Rattle.graph.specs.Link.{Link, Between, along, against, here, Chained, group}
 use Rattle.graph.specs.Forest.{Labelled, walk, forestOf, goesUnder, EndsBelow, empty, also}
@@ -25,9 +25,11 @@ use Rattle.forest_unite.specs.declared.Merge.{Merge}
 use Rattle.book_state.specs.Arrays.{cells, stepLimit, Arrays, arraysOf, freshArrays, united, unitedAll}
 use Rattle.book_state.specs.Log.{labelled}
 use Rattle.book_state.proofs.Built.{Holds, holds-all}
-use Rattle.forest_scratch.specs.Scratch.{Root, Found, Stands, RootOf}
-use Rattle.forest_scratch.proofs.Standing as scratch
-use Rattle.forest_beside.specs.Beside.{rootIn, linksOf, Beside, Advanced}
+use Rattle.forest_scratch.specs.declared.Roots.{Roots}
+use Rattle.forest_scratch.specs.Scratch.{Descends, bothOf, rootsOf, joinOf, Root, Stands, RootOf}
+use Rattle.forest_scratch.proofs.Standing.{stands-fresh, sides}
+use Rattle.forest_scratch.proofs.Joined as scratch
+use Rattle.forest_beside.specs.Beside.{rootIn, linksOf, Beside, topsOf}
 
 -- ---- what the forest's roots say
 
@@ -92,7 +94,7 @@ beside-fresh {a} e =
       done = [];
       ends = empty;
       built = e;
-      stands = rw e scratch.stands-fresh;
+      stands = rw e stands-fresh;
       long = rw e (length-countFrom 0 places);
       tops =
           rw e
@@ -100,8 +102,7 @@ beside-fresh {a} e =
           getD-countFrom 0 places c 0 h ∙ zero-add c ∙ sym (ap (λ w. w .root) (climb-stays (parentIn (freshParents places)) stepLimit c r)));
     }
 
-module _ {a : Arrays} {qs ts : List ℕ} (s : Beside a qs ts) {one other u v : ℕ} (cell : (one < cells) × (other < cells)) {rs ps : List ℕ}
-    (f : Found qs one u rs) (g : Found rs other v ps) (label : ℕ) where
+module _ {a : Arrays} {qs ts : List ℕ} (s : Beside a qs ts) {one other : ℕ} (cell : (one < cells) × (other < cells)) (label : ℕ) where
   abbrev link : Link
   link = record { one = one; other = other }
 
@@ -111,30 +112,36 @@ module _ {a : Arrays} {qs ts : List ℕ} (s : Beside a qs ts) {one other u v : �
   abbrev key : ℕ → ℕ
   key = group (linksOf (s .done))
 
-  at-found : Stands key rs
-  at-found = scratch.stands-shorter (s .stands) (f .shorter)
+  down : Descends qs
+  down = s .stands .falls
+
+  -- the scratch roots of the two ends, and the parents when they are found
+  abbrev u : ℕ
+  u = rootsOf qs one other .one
+
+  abbrev v : ℕ
+  v = rootsOf qs one other .other
+
+  abbrev ps : List ℕ
+  ps = bothOf qs one other .parents
 
   at-both : Stands key ps
-  at-both = scratch.stands-shorter at-found (g .shorter)
+  at-both = scratch.at-both down cell (s .stands)
 
   left-root : RootOf key ps one u
-  left-root = scratch.root-shorter at-found (g .shorter) (scratch.found-root (s .stands) f)
+  left-root = scratch.left-root down cell (s .stands)
 
   right-root : RootOf key ps other v
-  right-root = scratch.found-root at-found g
+  right-root = scratch.right-root down cell (s .stands)
 
   pub u-inside : u < places
-  u-inside = omega (arith, f .below, cell .0)
+  u-inside = scratch.left-inside down cell
 
   pub v-inside : v < places
-  v-inside = omega (arith, g .below, cell .1)
-
-  -- the roots of the scratch are those that there were
-  was : (c : ℕ) → Root ps c → Root qs c
-  was c r = f .shorter .roots c .1 (g .shorter .roots c .1 r)
+  v-inside = scratch.right-inside down cell
 
   tops-both : (c : ℕ) → c < cells → Root ps c → getD ts c 0 ≡ rootIn a c
-  tops-both c h r = s .tops c h (was c r)
+  tops-both c h r = s .tops c h (scratch.was-root down cell c r)
 
   -- one key, one root of the forest
   keyed : (c d : ℕ) → key c ≡ key d → rootIn a c ≡ rootIn a d
@@ -144,14 +151,11 @@ module _ {a : Arrays} {qs ts : List ℕ} (s : Beside a qs ts) {one other u v : �
   unkeyed c d e = chained-group (root-one (s .ends) (s .built) c d e)
 
   -- so the tops are the forest's roots of the two ends
-  pub top-one : getD ts u 0 ≡ rootIn a one
+  top-one : getD ts u 0 ≡ rootIn a one
   top-one = tops-both u u-inside (left-root .root) ∙ keyed u one (left-root .one-key)
 
-  pub top-other : getD ts v 0 ≡ rootIn a other
+  top-other : getD ts v 0 ≡ rootIn a other
   top-other = tops-both v v-inside (right-root .root) ∙ keyed v other (right-root .one-key)
-
-  pub read : mergeOfRoots (a .sizes) (getD ts u 0) (getD ts v 0) ≡ mergeOf (a .parents) (a .sizes) stepLimit one other
-  read = rw (top-one, top-other)
 
   built-more : united a x ≡ unitedAll freshArrays (x ∷ s .done)
   unfolding unitedAll
@@ -160,26 +164,15 @@ module _ {a : Arrays} {qs ts : List ℕ} (s : Beside a qs ts) {one other u v : �
   ends-more : EndsBelow cells (x ∷ s .done)
   ends-more = also cell (s .ends)
 
+  -- the key of the links with this one is that of the joined trees
+  stands-more : Stands (group (linksOf (x ∷ s .done))) (joinOf qs one other)
+  unfolding group
+  stands-more = scratch.stands-joined down cell (s .stands)
+
   -- the two have one root: nothing changes
   stays : u ≡ v → a ≡ united a x
   unfolding united
-  stays e = rw (eq-eqb (rootIn a one) (rootIn a other) (keyed one other (scratch.one-key at-both left-root right-root e)))
-
-  pub advanced-same : u ≡ v → Advanced a label one other a ps ts
-  unfolding group
-  advanced-same e =
-      record {
-        made = stays e;
-        beside =
-            record {
-              done = x ∷ s .done;
-              ends = ends-more;
-              built = stays e ∙ built-more;
-              stands = scratch.stands-same at-both (scratch.one-key at-both left-root right-root e);
-              long = s .long;
-              tops = tops-both;
-            };
-      }
+  stays e = rw (eq-eqb (rootIn a one) (rootIn a other) (keyed one other (scratch.keys-one down cell (s .stands) e)))
 
   -- they have different roots, and one goes under the other
   module _ (differ : u ≡ v → ⊥) where
@@ -187,16 +180,12 @@ module _ {a : Arrays} {qs ts : List ℕ} (s : Beside a qs ts) {one other u v : �
     h = mergeOf (a .parents) (a .sizes) stepLimit one other
 
     apart : rootIn a one ≡ rootIn a other → ⊥
-    apart e = differ (scratch.one-root at-both left-root right-root (unkeyed one other e))
+    apart e = differ (scratch.roots-one down cell (s .stands) (unkeyed one other e))
 
     facts : MergeFacts (a .parents) (rootIn a one) (rootIn a other) h
     facts =
         merge-facts (a .parents) (a .sizes) (rootIn a one) (rootIn a other) apart (root-stays (s .ends) (s .built) one)
         (root-stays (s .ends) (s .built) other)
-
-    stands-more : Stands (group (linksOf (x ∷ s .done))) (set ps (max u v) (min u v))
-    unfolding group
-    stands-more = scratch.stands-merged at-both left-root right-root (scratch.sides u v) (omega arith) (omega (arith, u-inside, v-inside))
 
     -- a root of the forest after the link is where the walks of its cells end
     ends-at : (c r : ℕ) → parentIn (united a x .parents) r ≡ r → Chained (linksOf (x ∷ s .done)) c r → r ≡ rootIn (united a x) c
@@ -214,7 +203,7 @@ module _ {a : Arrays} {qs ts : List ℕ} (s : Beside a qs ts) {one other u v : �
     old e = chained-there link (group-chained (linksOf (s .done)) e)
 
     min-chained : Chained (linksOf (x ∷ s .done)) (min u v) one
-    min-chained = by (scratch.sides u v)
+    min-chained = by (sides u v)
       where
         by : Between (max u v) (min u v) (record { one = u; other = v }) → Chained (linksOf (x ∷ s .done)) (min u v) one
         by (along p q) = rw (← q) (chained-trans (old (right-root .one-key)) (chained-sym (chained-one (here (along refl refl)))))
@@ -232,8 +221,8 @@ module _ {a : Arrays} {qs ts : List ℕ} (s : Beside a qs ts) {one other u v : �
             absurd (n (e ∙ sym (rw e at r) ∙ getD-set-same ps (max u v) (min u v) (max u v) (rw (at-both .falls .long) (omega (arith, u-inside, v-inside)))))
         go (no n) (no m) =
             let root : Root ps c = rw (getD-set-other ps (max u v) c (min u v) c m) at r in
-            let not-u : (c ≡ u → ⊥) = λ e. by (scratch.sides u v) (inl e) in
-            let not-v : (c ≡ v → ⊥) = λ e. by (scratch.sides u v) (inr e) in
+            let not-u : (c ≡ u → ⊥) = λ e. by (sides u v) (inl e) in
+            let not-v : (c ≡ v → ⊥) = λ e. by (sides u v) (inr e) in
             getD-set-other ts (min u v) c (h .top) 0 n ∙ tops-both c below root
             ∙ ends-at c (rootIn a c)
             (facts .others (rootIn a c) (λ e. not-u (at-both .apart c u root (left-root .root) (unkeyed c one e ∙ sym (left-root .one-key))))
@@ -246,28 +235,38 @@ module _ {a : Arrays} {qs ts : List ℕ} (s : Beside a qs ts) {one other u v : �
             by (against p q) (inl e) = n (e ∙ p)
             by (against p q) (inr e) = m (e ∙ q)
 
-    pub advanced-merged : {b : Arrays} → b ≡ united a x → Advanced a label one other b (set ps (max u v) (min u v)) (set ts (min u v) (h .top))
-    advanced-merged e =
-        record {
-          made = e;
-          beside =
-              record {
-                done = x ∷ s .done;
-                ends = ends-more;
-                built = e ∙ built-more;
-                stands = stands-more;
-                long = length-set ts (min u v) (h .top) ∙ s .long;
-                tops = λ c below r. tops-more c below r ∙ sym (ap (λ b. rootIn b c) e);
-              };
-        }
+  pub beside-united : Beside (united a x) (joinOf qs one other) (topsOf a qs ts one other)
+  beside-united =
+      record { done = x ∷ s .done; ends = ends-more; built = built-more; stands = stands-more; long = go .0; tops = go .1 }
+    where
+      go : (length (topsOf a qs ts one other) ≡ cells)
+          × ((c : ℕ) → c < cells → Root (joinOf qs one other) c → getD (topsOf a qs ts one other) c 0 ≡ rootIn (united a x) c)
+      go = by (ℕ-discrete u v)
+        where
+          by : Dec (u ≡ v) → (length (topsOf a qs ts one other) ≡ cells)
+              × ((c : ℕ) → c < cells → Root (joinOf qs one other) c → getD (topsOf a qs ts one other) c 0 ≡ rootIn (united a x) c)
+          by (yes e) = rw (eq-eqb u v e) (s .long, λ c below r. tops-both c below r ∙ ap (λ b. rootIn b c) (stays e))
+          by (no n) = rw (ne-eqb u v n) (length-set ts (min u v) (h n .top) ∙ s .long, tops-more n)
 
-    -- as the code leaves it
-    pub advanced-made : {merge : Merge} {parents sizes labels : List ℕ} {child top : ℕ}
-        → merge ≡ mergeOfRoots (a .sizes) (getD ts u 0) (getD ts v 0)
+  -- ---- as the code leaves it
+
+  module _ {r : Roots} (is : r ≡ rootsOf qs one other) where
+    pub roots-inside : (r .one < places) × (r .other < places)
+    roots-inside = rw is (u-inside, v-inside)
+
+    pub least-inside : min (r .one) (r .other) < places
+    least-inside = omega (arith, roots-inside .0)
+
+    pub same-made : r .one ≡ r .other → (a ≡ united a x) × (ts ≡ topsOf a qs ts one other)
+    same-made e = let same : u ≡ v = rw is at e in (stays same, rw (eq-eqb u v same))
+
+    pub apart-made : (r .one ≡ r .other → ⊥) → {merge : Merge} {parents sizes labels : List ℕ} {top : ℕ}
+        → merge ≡ mergeOfRoots (a .sizes) (getD ts (r .one) 0) (getD ts (r .other) 0)
         → parents ≡ mergedParents (a .parents) merge → sizes ≡ mergedSizes (a .sizes) merge → labels ≡ mergedLabels (a .labels) merge label
-        → child ≡ max u v → top ≡ min u v
-        → Advanced a label one other (arraysOf parents sizes labels) (set ps child top) (set ts top (merge .top))
+        → top ≡ min (r .one) (r .other)
+        → (arraysOf parents sizes labels ≡ united a x) × (set ts top (merge .top) ≡ topsOf a qs ts one other)
     unfolding united
-    advanced-made {merge} p q r t c d =
-        let e : merge ≡ h = p ∙ read in
-        rw (c, d, e) (advanced-merged (rw (q, r, t, e)))
+    apart-made n {merge} m p q l t =
+        let differ : (u ≡ v → ⊥) = rw is at n in
+        let e : merge ≡ h differ = m ∙ rw (is, top-one, top-other) in
+        (rw (p, q, l, e), rw (t, e, is, ne-eqb u v differ))

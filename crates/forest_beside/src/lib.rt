@@ -1,16 +1,18 @@
 // One link more in a labelled forest whose parents are never shortened, with scratch parents beside it that are: they find the roots of
 // the two ends, and the forest takes the step that it would have taken.
 use forest::PLACES;
-ghost use Prim.Native.Nat.{_<_};
-ghost use Rattle.book_state.specs.Arrays.{cells, arraysOf};
-ghost use Rattle.forest_beside.specs.Beside.{Beside, Advanced};
-use forest_scratch::find;
-use forest_scratch::larger;
+use forest_scratch::join;
 use forest_scratch::smaller;
 use forest_unite::merge_labels;
 use forest_unite::merge_parents;
 use forest_unite::merge_sizes;
 use forest_unite::roots::merge_of_roots;
+ghost use mathlib.Core.Path.{_≡_};
+ghost use Prim.Native.Nat.{_<_};
+ghost use Rattle.forest_scratch.specs.Scratch.{joinOf};
+ghost use Rattle.book_state.specs.Arrays.{cells, arraysOf, united};
+ghost use Rattle.book_state.specs.Log.{labelled};
+ghost use Rattle.forest_beside.specs.Beside.{Beside, topsOf};
 
 // `tops` has, for each root of the scratch parents, the forest's root of the same cells.
 pub fn unite(
@@ -26,20 +28,21 @@ pub fn unite(
     requires { ⌜ Beside (arraysOf (now parent) (now size) (now label)) (now scratch) (now tops) ⌝ }
     requires { ⌜ (one < cells) × (other < cells) ⌝ }
     ensures { λ _.
-        ⌜ Advanced (arraysOf (now (parent .entry)) (now (size .entry)) (now (label .entry))) place one other
-        (arraysOf (now (parent .exit)) (now (size .exit)) (now (label .exit))) (now (scratch .exit)) (now (tops .exit)) ⌝ }
+        ⌜ arraysOf (now (parent .exit)) (now (size .exit)) (now (label .exit))
+        ≡ united (arraysOf (now (parent .entry)) (now (size .entry)) (now (label .entry))) (labelled place (record { one = one; other = other })) ⌝ }
+    ensures { λ _. ⌜ now (scratch .exit) ≡ joinOf (now (scratch .entry)) one other ⌝ }
+    ensures { λ _.
+        ⌜ now (tops .exit)
+        ≡ topsOf (arraysOf (now (parent .entry)) (now (size .entry)) (now (label .entry))) (now (scratch .entry)) (now (tops .entry)) one other ⌝ }
 {
-    let u = find(scratch, one);
-    let v = find(scratch, other);
+    let r = join(scratch, one, other);
     // Most links of a full window find their ends joined already.
-    if u == v {
+    if r.one == r.other {
         return;
     }
-    let h = merge_of_roots(size, tops[u as usize], tops[v as usize]);
+    let h = merge_of_roots(size, tops[r.one as usize], tops[r.other as usize]);
     merge_parents(parent, h);
     merge_sizes(size, h);
     merge_labels(label, h, place);
-    let top = smaller(u, v);
-    scratch[larger(u, v) as usize] = top;
-    tops[top as usize] = h.top;
+    tops[smaller(r.one, r.other) as usize] = h.top;
 }

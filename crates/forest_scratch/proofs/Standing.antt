@@ -10,7 +10,7 @@ use native.Mathlib.Decide.{ℕ-discrete, decLe}
 use native.Mathlib.Nat.{le-refl}
 use borrow.Author.Tests.{eq-eqb, ne-eqb, eqb-true}
 use lib.Dec.{eqb}
-use lib.ListN.{length, set, length-set}
+use lib.ListN.{length, set}
 use lib.Seq.{getD-set-same, getD-set-other}
 use Rattle.graph.specs.Link.{Between, along, against}
 use Rattle.graph.specs.Forest.{put}
@@ -18,8 +18,8 @@ use Rattle.graph.proofs.Chains.{taken, taken-ends, taken-met}
 use Rattle.forest.specs.Arrays.{places, freshParents}
 use Rattle.forest.proofs.Fill.{length-countFrom}
 use Rattle.forest.proofs.Held.{fresh-parent}
-use Rattle.forest_scratch.specs.Scratch.{Root, Shortened, Found, Stands, RootOf}
-use Rattle.forest_scratch.proofs.Shorter.{stored}
+use Rattle.forest_scratch.specs.Scratch.{Root, Stands, RootOf}
+use Rattle.forest_scratch.proofs.Shorter.{Shortened, Found, stored, descends-stored}
 
 -- each cell its own root, and its own key
 pub stands-fresh : Stands (λ c. c) (freshParents places)
@@ -135,11 +135,7 @@ module _ {key : ℕ → ℕ} {ps : List ℕ} (s : Stands key ps) {one other u v 
   pub stands-merged : Stands after (set ps child top)
   stands-merged =
       record {
-        falls =
-            record {
-              long = length-set ps child top ∙ s .falls .long;
-              low = λ c. stored (λ m. m ≤ c) ps child top c h (λ e. rw e low) (λ n. s .falls .low c);
-            };
+        falls = descends-stored (s .falls) inside low;
         kept =
             λ c. stored (λ m. after m ≡ after c) ps child top c h (λ e. rw e meet) (λ n. ap (taken (key one) (key other)) (s .kept c));
         apart = apart;

@@ -1,20 +1,12 @@
 // The links of a slide, from the log into three arrays: link i joins ones[i] and others[i] and has the label labels[i].
 use book_state::CELLS;
 use slides::Clock;
-ghost use mathlib.Core.Path.{_≡_};
 ghost use mathlib.Core.List.{map, []};
-ghost use Prim.Native.Nat.{_+_, _*_, _≤_, _<_, min};
+ghost use Prim.Native.Nat.{_+_, _*_, _≤_, _<_};
 ghost use lib.ListN.{length};
 ghost use Rattle.slides.specs.Clock.{chunkOf, placeOf};
 ghost use Rattle.book_state.specs.Log.{Readable, halfOf, keep, labelled, linksAt, placeLinks};
 ghost use Rattle.window.specs.Gathered.{LinksPut};
-
-// How many slides the window has while slide k is open: in a young book fewer than n exist.
-pub fn window_slides(n: u8, k: u64) -> u8
-    ensures { λ r. ⌜ r ≡ min n (k + 1) ⌝ }
-{
-    if k < n as u64 { k as u8 + 1 } else { n }
-}
 
 // Puts the links of a slide into the arrays, the first at place `at`. Returns the place after the last, as the functions below do.
 pub fn put_slide(

@@ -2,6 +2,7 @@
 use borrow.Author.Needs.{needs}
 use borrow.Author.Tests.{lt-ltb, le-ltb}
 use Rattle.book_state.specs.Arrays.{unitedAll}
+use Rattle.forest_beside.proofs.Advancing.{beside-united}
 use Rattle.book_time.proofs.unite_pair.Statement.{statement}
 use Rattle.book_time.proofs.unite_pair.Tie as tie
 
@@ -20,7 +21,11 @@ returns-3 : tie.Need-returns-3
 unfolding unitedAll
 returns-3 c =
     let apart = c .before .before .before .before .before .before in
-    (simp (lt-ltb _ _ (apart .before .if1 .left), lt-ltb _ _ (apart .if2 .left)) (c .unite .ensures .made), c .unite .ensures .beside)
+    let start = apart .before .before in
+    let made = c .unite .ensures in (
+      simp (lt-ltb _ _ (apart .before .if1 .left), lt-ltb _ _ (apart .if2 .left)) (made .0),
+      rw (made .0, made .1 .0, made .1 .1) (beside-united (start .pre) (apart .before .if1 .left, apart .if2 .left) (start .args .place)),
+    )
 
 pub unite-pair-spec : {M : Type 1} → statement M
 unite-pair-spec = tie.close (tie.spec returns returns-2 unite-requires returns-3)

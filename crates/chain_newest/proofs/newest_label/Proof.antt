@@ -1,136 +1,115 @@
--- `chain_newest::newest_label` meets its contract: the loop of proofs/Searching.antt, and what it finds is the highest label (proofs/Meeting.antt).
-use Prim.Native.Nat.{suc, _-_, _<_}
-use mathlib.Core.List.{[]}
-use mathlib.Core.Path.{_≡_, _∙_}
+-- `chain_newest::newest_label` meets its contract: the newest `age` slides are joined (proofs/Newest.antt), until the two cells meet.
+use Prim.Native.Nat.{_-_, _≤_, _<_}
+use mathlib.Core.Path.{_≡_}
 use native.Mathlib.Omega.{arith}
-use native.Mathlib.Numerals.{add-one}
 use borrow.Author.Needs.{needs}
-use Rattle.window.specs.Window.{highest}
-use Rattle.window.specs.Gathered.{arrayLinks}
-use Rattle.chain_newest.specs.Newest.{meeting}
-use Rattle.chain_newest.proofs.Meeting.{meeting-highest, highest-same}
-use Rattle.chain_newest.proofs.Searching.{Searching, searching-begin, searching-end, ends-next, child-inside, searching-same, searching-met, searching-more}
+use lib.ListN.{getD}
+use Rattle.slides.specs.Clock.{openSlide}
+use Rattle.slides.proofs.Slides.{place-below}
+use Rattle.window.specs.Window.{windowSlides}
+use Rattle.chain_newest.proofs.Newest.{Searching, label-same, searching-none, searched, searching-met, searching-more}
 use Rattle.chain_newest.proofs.newest_label.Statement.{statement}
 use Rattle.chain_newest.proofs.newest_label.Tie as tie
-use Rattle.forest.specs.Arrays.{places}
 
 abbrev Inv-loop : tie.InvT-loop
-Inv-loop ones others labels count n one other parent₀ a₀ b₀ i₀ parent a b i = Searching ones others labels count one other parent a b i
+Inv-loop clock counts log one other k slides parent₀ roots₀ age₀ parent roots age = Searching clock counts log one other parent roots age
 
 abbrev μ-loop : tie.MeasureT-loop
-μ-loop ones others labels count n one other parent₀ a₀ b₀ i₀ parent a b i = count - i
+μ-loop clock counts log one other k slides parent₀ roots₀ age₀ parent roots age = slides - age
 
--- the loop's head, from where both roots are found
-abbrev head : tie.After-find2 Inv-loop μ-loop → tie.In-loop Inv-loop μ-loop
-head c = c .before .before .before .before .before .before
+-- what is known before the loop: the function's entry, that the two differ, and the open slide
+module _ (c : tie.After-window-slides Inv-loop μ-loop) where
+  abbrev apart : tie.Else1 Inv-loop μ-loop
+  apart = c .before .before
 
-few : (c : tie.In-loop Inv-loop μ-loop) → c .before .loop .i < 4096
-few c = omega (arith, c .before .before .before .before .pre .many)
+  abbrev start : tie.Start Inv-loop μ-loop
+  start = apart .before .before
 
-below : (c : tie.After-larger Inv-loop μ-loop) → c .larger .result < places
-below c =
-    let w = c .before .before in
-    let h = head w in
-    rw (c .larger .ensures) (child-inside (h .before .loop .inv) (h .loop-test .taken) (w .before .before .before .find .ensures) (w .find2 .ensures))
+  opened : c .before .open-slide .result ≡ openSlide (start .args .clock)
+  opened = c .before .open-slide .ensures
+
+-- and in it
+abbrev before : tie.In-loop Inv-loop μ-loop → tie.After-window-slides Inv-loop μ-loop
+before c = c .before .before .before
+
+young : (c : tie.In-loop Inv-loop μ-loop) → c .before .loop .age < windowSlides (start (before c) .args .clock)
+young c = rw (before c .window-slides .ensures) at (c .loop-test .taken)
+
+spot-below : (c : tie.After-spot Inv-loop μ-loop) → c .spot .result < 32
+spot-below c =
+    let opened = before (c .before) .before in
+    let entry = start (before (c .before)) in
+    omega (arith, c .spot .ensures, place-below (entry .args .clock) (entry .pre .n-least) (opened .open-slide .result - c .before .before .loop .age), entry .pre .n-most)
+
+few : (c : tie.After-spot Inv-loop μ-loop) → getD (start (before (c .before)) .args .counts .now) (c .spot .result) 0 ≤ 256
+few c = start (before (c .before)) .pre .few (c .spot .result)
 
 add-result : tie.Need-add-result Inv-loop μ-loop
-add-result c = search needs
+add-result c = omega (arith, c .before .before .before .pre .n-most)
 
 returns : tie.Need-returns Inv-loop μ-loop
-returns c = add-one _ ∙ rw (← c .if1 .taken) (highest-same _ _ _)
+returns c = label-same _ _ _ _ _ (c .before .if1 .taken)
+
+open-slide-requires : tie.Need-open-slide-requires Inv-loop μ-loop
+open-slide-requires c κs = search needs
+
+window-slides-requires : tie.Need-window-slides-requires Inv-loop μ-loop
+window-slides-requires c κs = search needs
 
 fresh-parents-requires : tie.Need-fresh-parents-requires Inv-loop μ-loop
-fresh-parents-requires c κs = tt
+fresh-parents-requires c κs = search needs
 
 loop-holds : tie.Need-loop-holds Inv-loop μ-loop
-loop-holds c = rw (c .fresh-parents .ensures) (searching-begin (c .before .if1 .left) (c .before .before .pre .ends))
+loop-holds c = searching-none _ _ _ _ _ (apart (c .before) .if1 .left) (c .fresh-parents .ensures)
 
-mul-find : tie.Need-mul-find Inv-loop μ-loop
-mul-find c = omega (arith, c .before .before .before .before .before .pre .many)
+cast-spot : tie.Need-cast-spot Inv-loop μ-loop
+cast-spot c = omega arith
 
-element-copy-out-find : tie.Need-element-copy-out-find Inv-loop μ-loop
-element-copy-out-find c = omega (arith, c .before .before .before .before .before .pre .many)
+sub-spot : tie.Need-sub-spot Inv-loop μ-loop
+sub-spot c = omega (arith, young c, opened (before c))
 
-find-requires : tie.Need-find-requires Inv-loop μ-loop
-find-requires c κs = (c .before .before .before .loop .inv .stands .falls, ends-next (c .before .before .before .loop .inv) (c .before .before .loop-test .taken) .0 .0)
+spot-requires : tie.Need-spot-requires Inv-loop μ-loop
+spot-requires c κs = search needs
 
-mul-find-2 : tie.Need-mul-find-2 Inv-loop μ-loop
-mul-find-2 c = omega (arith, few (c .before .before .before .before))
+mul-join-links : tie.Need-mul-join-links Inv-loop μ-loop
+mul-join-links c = omega (arith, spot-below c)
 
-element-copy-out-find-2 : tie.Need-element-copy-out-find-2 Inv-loop μ-loop
-element-copy-out-find-2 c = few (c .before .before .before .before)
+mul-join-links-2 : tie.Need-mul-join-links-2 Inv-loop μ-loop
+mul-join-links-2 c = omega (arith, spot-below c)
 
-find-requires-2 : tie.Need-find-requires-2 Inv-loop μ-loop
-find-requires-2 c κs = (c .before .before .find .ensures .shorter .falls, ends-next (c .before .before .before .before .before .before .loop .inv) (c .before .before .before .before .before .loop-test .taken) .0 .1)
+read-count : tie.Need-element-copy-out-join-links Inv-loop μ-loop
+read-count c = spot-below c
 
-add-i : tie.Need-add-i Inv-loop μ-loop
-add-i c = omega arith
+cast-join-links : tie.Need-cast-join-links Inv-loop μ-loop
+cast-join-links c = omega (arith, few (c .before))
 
-loop-less : tie.Need-loop-less Inv-loop μ-loop
-loop-less c = omega arith
+join-links-requires : tie.Need-join-links-requires Inv-loop μ-loop
+join-links-requires c κs =
+    let d = c .before .before in
+    let s = d .before .before .loop .inv in
+    (omega (arith, spot-below d, few d, start (before (d .before)) .pre .long), (s .tracks .stands .falls, s .apart))
 
-loop-again : tie.Need-loop-again Inv-loop μ-loop
-loop-again c =
-    let w = c .before in
-    let h = head w in
-    searching-same (h .before .loop .inv) (h .loop-test .taken) (w .before .before .before .find .ensures) (w .find2 .ensures) (c .if2 .taken)
-
-larger-requires : tie.Need-larger-requires Inv-loop μ-loop
-larger-requires c κs = tt
-
-smaller-requires : tie.Need-smaller-requires Inv-loop μ-loop
-smaller-requires c κs = tt
-
-cast-parent : tie.Need-cast-parent Inv-loop μ-loop
-cast-parent c = omega (arith, below (c .before))
-
-mul-parent : tie.Need-mul-parent Inv-loop μ-loop
-mul-parent c = omega (arith, below (c .before))
-
-array-write-parent : tie.Need-array-write-parent Inv-loop μ-loop
-array-write-parent c = below (c .before)
-
-moved-requires : tie.Need-moved-requires Inv-loop μ-loop
-moved-requires c κs = tt
-
-moved-requires-2 : tie.Need-moved-requires-2 Inv-loop μ-loop
-moved-requires-2 c κs = tt
-
--- what is looked for, from the loop's head
-highest-is : (c : tie.At-loop Inv-loop μ-loop) → (let args = c .before .before .before .args in
-    meeting [] (arrayLinks (args .ones .now) (args .others .now) (args .labels .now) (args .count)) (args .one) (args .other)
-    ≡ highest (suc (args .n)) (arrayLinks (args .ones .now) (args .others .now) (args .labels .now) (args .count)) (args .one) (args .other))
-highest-is c = meeting-highest _ _ (c .before .before .before .pre .falls) (c .before .before .if1 .left)
-
-element-copy-out-result : tie.Need-element-copy-out-result Inv-loop μ-loop
-element-copy-out-result c = few (head (c .before .before .before .before .before .before))
+sub-result : tie.Need-sub-result Inv-loop μ-loop
+sub-result c =
+    let d = c .before .before .before .before .before .before in
+    omega (arith, young (d .before))
 
 returns-2 : tie.Need-returns-2 Inv-loop μ-loop
 returns-2 c =
-    let d = c .before .before in
-    let w = d .before .before .before .before .before in
-    let h = head w in
-    let e = rw (d .before .moved .ensures, d .moved2 .ensures, d .before .before .before .larger .ensures, d .before .before .smaller .ensures) at (c .before .if3 .taken) in
-    searching-met (h .before .loop .inv) (h .loop-test .taken) (w .before .before .before .find .ensures) (w .find2 .ensures) e
-    ∙ highest-is (h .before)
+    let call = c .before .before .before in
+    let d = call .before .before .before in
+    let slide = rw (d .spot .ensures, opened (before (d .before))) at (call .join-links .ensures) in
+    searching-met _ _ _ _ _ (d .before .before .loop .inv) (young (d .before)) slide (c .before .if2 .taken)
 
-add-i-2 : tie.Need-add-i-2 Inv-loop μ-loop
-add-i-2 c = omega arith
-
-loop-less-2 : tie.Need-loop-less-2 Inv-loop μ-loop
-loop-less-2 c = omega arith
-
-loop-again-2 : tie.Need-loop-again-2 Inv-loop μ-loop
-loop-again-2 c =
-    let d = c .before in
-    let w = d .before .before .before .before .before in
-    let h = head w in
-    let e = rw (d .before .moved .ensures, d .moved2 .ensures, d .before .before .before .larger .ensures, d .before .before .smaller .ensures) at (c .if3 .left) in
-    rw (d .before .moved .ensures, d .moved2 .ensures, d .before .before .before .larger .ensures, d .before .before .smaller .ensures)
-    (searching-more (h .before .loop .inv) (h .loop-test .taken) (w .before .before .before .find .ensures) (w .find2 .ensures) e)
+loop-again : tie.Need-loop-again Inv-loop μ-loop
+loop-again c =
+    let call = c .before .before in
+    let d = call .before .before .before in
+    let slide = rw (d .spot .ensures, opened (before (d .before))) at (call .join-links .ensures) in
+    searching-more _ _ _ _ _ (d .before .before .loop .inv) (young (d .before)) slide (c .if2 .left)
 
 returns-3 : tie.Need-returns-3 Inv-loop μ-loop
-returns-3 c = searching-end (c .before .loop .inv) (c .loop-test .left) ∙ highest-is (c .before)
+returns-3 c = searched _ _ _ _ _ (c .before .loop .inv) (rw (c .before .before .before .window-slides .ensures) at (c .loop-test .left))
 
 pub newest-label-spec : {M : Type 1} → statement M
 newest-label-spec =
@@ -140,27 +119,21 @@ newest-label-spec =
     μ-loop
     add-result
     returns
+    open-slide-requires
+    window-slides-requires
     fresh-parents-requires
     loop-holds
-    mul-find
-    element-copy-out-find
-    find-requires
-    mul-find-2
-    element-copy-out-find-2
-    find-requires-2
-    add-i
-    loop-less
-    loop-again
-    larger-requires
-    smaller-requires
-    cast-parent
-    mul-parent
-    array-write-parent
-    moved-requires
-    moved-requires-2
-    element-copy-out-result
+    cast-spot
+    sub-spot
+    spot-requires
+    mul-join-links
+    mul-join-links-2
+    read-count
+    cast-join-links
+    join-links-requires
+    sub-result
     returns-2
-    add-i-2
-    loop-less-2
-    loop-again-2
+    (λ c. omega arith)
+    (λ c. omega arith)
+    loop-again
     returns-3)

@@ -1,42 +1,46 @@
--- `forest_beside::unite` meets its contract: where the scratch has one root nothing merges; else each store is one of the step (proofs/Advancing.antt).
+-- `forest_beside::unite` meets its contract: where the scratch has one root nothing changes; else each store is one of the step
+-- (proofs/Advancing.antt).
+use Prim.Native.Nat.{_<_}
+use native.Mathlib.Omega.{arith}
 use borrow.Author.Needs.{needs}
-use Rattle.forest_beside.proofs.Advancing.{advanced-same, advanced-made}
+use Rattle.forest.specs.Arrays.{places}
+use Rattle.forest_beside.proofs.Advancing.{roots-inside, least-inside, same-made, apart-made}
 use Rattle.forest_beside.proofs.unite.Statement.{statement}
 use Rattle.forest_beside.proofs.unite.Tie as tie
 
--- the function's entry, from where both roots are found
-abbrev entry : tie.After-find2 → tie.Start
-entry c = c .before .before .before .before
+-- the function's entry, from where the trees are joined
+abbrev start : tie.After-join → tie.Start
+start c = c .before .before
 
-find-requires : tie.Need-find-requires
-find-requires c κs = search needs
+inside : (c : tie.After-join) → (c .join .result .one < places) × (c .join .result .other < places)
+inside c = roots-inside (start c .pre .0) (start c .pre .1) 0 (c .join .ensures .0)
 
-find-requires-2 : tie.Need-find-requires-2
-find-requires-2 c κs = search needs
+join-requires : tie.Need-join-requires
+join-requires c κs = (c .before .pre .0 .stands .falls, c .before .pre .1)
 
 returns : tie.Need-returns
 returns c =
-    let d = c .before in
-    let start = entry d in
-    advanced-same (start .pre .0) (start .pre .1) (d .before .before .find .ensures) (d .find2 .ensures) _ (c .if1 .taken)
+    let d = c .before .before in
+    let same = same-made (start d .pre .0) (start d .pre .1) _ (d .join .ensures .0) (c .if1 .taken) in
+    (same .0, (d .join .ensures .1, same .1))
 
-cast-merge-of-roots : tie.Need-cast-merge-of-roots
-cast-merge-of-roots c = search needs
+cast-one : tie.Need-cast-merge-of-roots
+cast-one c = omega (arith, inside (c .before .before .before .before .before))
 
-mul-merge-of-roots : tie.Need-mul-merge-of-roots
-mul-merge-of-roots c = search needs
+mul-one : tie.Need-mul-merge-of-roots
+mul-one c = omega (arith, inside (c .before .before .before .before .before))
 
-element-copy-out-merge-of-roots : tie.Need-element-copy-out-merge-of-roots
-element-copy-out-merge-of-roots c = search needs
+read-one : tie.Need-element-copy-out-merge-of-roots
+read-one c = inside (c .before .before .before .before .before) .0
 
-cast-merge-of-roots-2 : tie.Need-cast-merge-of-roots-2
-cast-merge-of-roots-2 c = search needs
+cast-other : tie.Need-cast-merge-of-roots-2
+cast-other c = omega (arith, inside (c .before .before .before .before .before .before .before))
 
-mul-merge-of-roots-2 : tie.Need-mul-merge-of-roots-2
-mul-merge-of-roots-2 c = search needs
+mul-other : tie.Need-mul-merge-of-roots-2
+mul-other c = omega (arith, inside (c .before .before .before .before .before .before .before))
 
-element-copy-out-merge-of-roots-2 : tie.Need-element-copy-out-merge-of-roots-2
-element-copy-out-merge-of-roots-2 c = search needs
+read-other : tie.Need-element-copy-out-merge-of-roots-2
+read-other c = inside (c .before .before .before .before .before .before .before) .1
 
 merge-of-roots-requires : tie.Need-merge-of-roots-requires
 merge-of-roots-requires c κs = search needs
@@ -53,63 +57,52 @@ merge-labels-requires c κs = search needs
 smaller-requires : tie.Need-smaller-requires
 smaller-requires c κs = search needs
 
-larger-requires : tie.Need-larger-requires
-larger-requires c κs = search needs
-
-cast-scratch : tie.Need-cast-scratch
-cast-scratch c = search needs
-
-mul-scratch : tie.Need-mul-scratch
-mul-scratch c = search needs
-
-element-write-scratch : tie.Need-element-write-scratch
-element-write-scratch c = search needs
+-- the place where the top is stored
+least : (c : tie.After-smaller) → c .smaller .result < places
+least c =
+    let d = c .before .before .before .before .before .before .before .before .before .before .before .before .before .before .before .before in
+    rw (c .smaller .ensures) (least-inside (start d .pre .0) (start d .pre .1) 0 (d .join .ensures .0))
 
 cast-tops : tie.Need-cast-tops
-cast-tops c = search needs
+cast-tops c = omega (arith, least c)
 
 mul-tops : tie.Need-mul-tops
-mul-tops c = search needs
+mul-tops c = omega (arith, least c)
 
-element-write-tops : tie.Need-element-write-tops
-element-write-tops c = search needs
+write-tops : tie.Need-element-write-tops
+write-tops c = least c
 
 returns-2 : tie.Need-returns-2
 returns-2 c =
-    let labels = c .before .before in
+    let labels = c .before in
     let sizes = labels .before .before in
     let parents = sizes .before .before in
-    let merges = parents .before .before in
-    let apart = merges .before .before .before .before .before in
-    let d = apart .before in
-    let start = entry d in
-    advanced-made (start .pre .0) (start .pre .1) (d .before .before .find .ensures) (d .find2 .ensures) _ (apart .if1 .left)
-    (merges .merge-of-roots .ensures) (parents .merge-parents .ensures) (sizes .merge-sizes .ensures) (labels .merge-labels .ensures) (c .larger .ensures)
-    (c .before .smaller .ensures)
+    let merge = parents .before .before in
+    let apart = merge .before .before .before .before .before .before .before in
+    let d = apart .before .before in
+    let made =
+    apart-made (start d .pre .0) (start d .pre .1) _ (d .join .ensures .0) (apart .if1 .left) (merge .merge-of-roots .ensures)
+    (parents .merge-parents .ensures) (sizes .merge-sizes .ensures) (labels .merge-labels .ensures) (c .smaller .ensures) in
+    (made .0, (d .join .ensures .1, made .1))
 
 pub unite-spec : {M : Type 1} → statement M
 unite-spec =
     tie.close
     (tie.spec
-    find-requires
-    find-requires-2
+    join-requires
     returns
-    cast-merge-of-roots
-    mul-merge-of-roots
-    element-copy-out-merge-of-roots
-    cast-merge-of-roots-2
-    mul-merge-of-roots-2
-    element-copy-out-merge-of-roots-2
+    cast-one
+    mul-one
+    read-one
+    cast-other
+    mul-other
+    read-other
     merge-of-roots-requires
     merge-parents-requires
     merge-sizes-requires
     merge-labels-requires
     smaller-requires
-    larger-requires
-    cast-scratch
-    mul-scratch
-    element-write-scratch
     cast-tops
     mul-tops
-    element-write-tops
+    write-tops
     returns-2)

@@ -1,4 +1,5 @@
 -- `forest_scratch::find` meets its contract: the loop of proofs/Shorter.antt, in which the cell falls.
+use mathlib.Core.Path.{ap}
 use native.Mathlib.Omega.{arith}
 use borrow.Author.Needs.{needs}
 use Rattle.forest_scratch.proofs.Shorter.{Going, going-begin, going-more, going-end, falls, above-inside, next-inside}
@@ -51,22 +52,24 @@ element-copy-out-above-2 : tie.Need-element-copy-out-above-2 Inv-loop μ-loop
 element-copy-out-above-2 c = next-inside (c .before .loop .inv)
 
 cast-next-2 : tie.Need-cast-next-2 Inv-loop μ-loop
-cast-next-2 c = omega (arith, above-inside (going-more (c .before .before .loop .inv)))
+cast-next-2 c = omega (arith, above-inside (going-more (c .before .before .loop .inv) (c .before .loop-test .taken)))
 
 mul-next-2 : tie.Need-mul-next-2 Inv-loop μ-loop
-mul-next-2 c = omega (arith, above-inside (going-more (c .before .before .loop .inv)))
+mul-next-2 c = omega (arith, above-inside (going-more (c .before .before .loop .inv) (c .before .loop-test .taken)))
 
 element-copy-out-next-2 : tie.Need-element-copy-out-next-2 Inv-loop μ-loop
-element-copy-out-next-2 c = above-inside (going-more (c .before .before .loop .inv))
+element-copy-out-next-2 c = above-inside (going-more (c .before .before .loop .inv) (c .before .loop-test .taken))
 
 loop-less : tie.Need-loop-less Inv-loop μ-loop
 loop-less c = falls (c .before .before .before .loop .inv) (c .before .before .loop-test .taken)
 
 loop-again : tie.Need-loop-again Inv-loop μ-loop
-loop-again c = going-more (c .before .before .before .loop .inv)
+loop-again c = going-more (c .before .before .before .loop .inv) (c .before .before .loop-test .taken)
 
 returns : tie.Need-returns Inv-loop μ-loop
-returns c = going-end (c .before .loop .inv) (c .loop-test .left)
+returns c =
+    let e = going-end (c .before .loop .inv) (c .loop-test .left) in
+    (ap (λ f. f .root) e, ap (λ f. f .parents) e)
 
 pub find-spec : {M : Type 1} → statement M
 find-spec =
