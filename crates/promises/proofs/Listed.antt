@@ -13,7 +13,7 @@ listed =
     record {
       plays = λ file s cs h told. plays-told file (keeps s cs h told);
       groups = λ s cs h told. groups-told (keeps s cs h told);
-      means = λ s cs h told c below. group-means (keeps s cs h told) c;
+      means = λ s cs h told c. group-means (keeps s cs h told) c;
       prints = prints-told;
       records = records-told;
       example = example-told;

@@ -14,7 +14,6 @@ use Rattle.numbers.proofs.Checks.{has-front}
 use Rattle.settings.specs.Settings.{takenNumber}
 use Rattle.settings.specs.declared.Settings.{Settings}
 use Rattle.file.specs.Format.{readNumber, readOf}
-use Rattle.file.specs.declared.Reading.{Reading}
 use Rattle.file.proofs.Files.{read-number}
 use Rattle.book_state.specs.Numbers.{logPlaces}
 use Rattle.book_state.specs.Order.{neverOpened}
@@ -25,8 +24,8 @@ use Rattle.listing.specs.Lines.{linksWord, refusedFile, refusedRecord}
 use Rattle.listing.specs.Listing.{windowLine, windowText, bookText, listingText}
 use Rattle.listing.proofs.Stages.{reading-refused, Opened, opening-refused, PlayedInto, record-refused, book-listed}
 use Rattle.promises.specs.History.{opening, Call, History, begun, firstByNumber, oneMore, historyFrom, historyOf}
-use Rattle.promises.specs.Implementation.{ours, State, stateOf, gives, after}
-use Rattle.promises.specs.Listed.{linkCalls, fileCalls, Refusal, recordRefusal, playedState, historyText, Printed, Prints}
+use Rattle.promises.specs.Implementation.{State, stateOf, gives, after}
+use Rattle.promises.specs.Listed.{linkCalls, fileCalls, recordRefusal, historyText, Printed, Prints}
 use Rattle.promises.proofs.Agrees.{Agrees}
 use Rattle.promises.proofs.NumbersAgree.{opening-gives}
 use Rattle.promises.proofs.Keeps.{keeps}

@@ -94,7 +94,7 @@ holdWithin (suc c) h one other =
     let sooner : ℕ = holdWithin c h one other in
     cond (chains (linksOf (windowAt h (openSlideIn h + suc c))) one other) (suc c) sooner
 
--- the hold: after n closings no link of today is left
+-- the hold; after n closings no link of today's window is left
 abbrev pub holdIn : (history : History) (one other : Cell) → ℕ
 holdIn h one other = holdWithin (h .clock .n) h one other
 
@@ -143,8 +143,8 @@ pub record PairOf (s : State) (group : List Cell) (hold : ℕ) : Type 0 where
   pub different : one < other
   pub holds : ChainHold s one other (λ k. k ≡ hold)
 
--- what these definitions mean: a group is a class of cells that the window's links chain, each cell in it once; no pair of it has a
--- hold, by the chain call, below the least, and some pair has it
+-- what these definitions mean: a group is a class of cells that the window's links chain, each cell in it once; the chain call gives no
+-- pair of it a hold below the least, and gives the least to some pair
 pub record GroupMeans (s : State) (h : History) (c : Cell) : Type 0 where
   pub members : (d : ℕ) → List·Memᴰ d (groupIn h c) ↔ ((d < cells) × Chained (windowOf h) c d)
   pub once : Rising 0 (groupIn h c)
@@ -187,19 +187,16 @@ pub record Prints (file : Bytes) : Type 0 where
 
 -- ---- records
 
--- a tick and two cells as a record holds them (RULES 6.2)
-pub record Fits (tick one other : ℕ) : Type 0 where
-  pub tick-fits : tick < 2 ^ 32
-  pub one-fits : one < 2 ^ 16
-  pub other-fits : other < 2 ^ 16
-
--- what is packed is taken out again, and wherever a record stands in a file, that is the link call that playing makes of it; and the
--- other way round, the 8 bytes of each record are its fields packed
-pub record Records : Type 0 where
-  pub packed : (tick one other : ℕ) → Fits tick one other → (out : Bytes) → 8 ≤ length out →
+-- a tick and two cells packed into a record: what is taken out of it again, and the link call that playing makes of it, wherever it
+-- stands in a file
+pub record RecordRead (tick one other : ℕ) : Type 0 where
+  pub taken : (out : Bytes) → 8 ≤ length out →
       recordOf (packedOf tick one other out) 0 ≡ record { tick = tick; one = one; other = other; number = 0 }
-  pub played : (tick one other : ℕ) → Fits tick one other → (before rest : Bytes) (i : ℕ) → length before ≡ 8 * i →
-      recordCall (before ++ (recordBytes tick one other ++ rest)) i ≡ link tick one other
+  pub played : (before rest : Bytes) (i : ℕ) → length before ≡ 8 * i → recordCall (before ++ (recordBytes tick one other ++ rest)) i ≡ link tick one other
+
+-- so for all that fit their fields (RULES 6.2); and the other way round, the 8 bytes of each record of a file are its fields packed
+pub record Records : Type 0 where
+  pub read : (tick one other : ℕ) → tick < 2 ^ 32 → one < 2 ^ 16 → other < 2 ^ 16 → RecordRead tick one other
   pub again : (file : Bytes) → ((place : ℕ) → getD file place 0 < 256) → (i : ℕ) → 8 * i + 8 ≤ length file →
       recordBytes (tickAt file i) (oneAt file i) (otherAt file i) ≡ take 8 (drop (8 * i) file)
 
@@ -233,7 +230,7 @@ exampleText =
 pub record Listed : Type 0 where
   pub plays : (file : Bytes) → AfterCalls ours λ s h. Plays file s h (playOf file (s .book) (s .log))
   pub groups : AfterCalls ours GroupsTold
-  pub means : AfterCalls ours λ s h. (c : ℕ) → c < cells → GroupMeans s h c
+  pub means : AfterCalls ours λ s h. (c : ℕ) → GroupMeans s h c
   pub prints : (file : Bytes) → Prints file
   pub records : Records
   pub example : listingText exampleFile ≡ exampleText
