@@ -2,19 +2,15 @@
 --
 -- Its calls tell a history (computed), and what is printed is the text of that history (ListedPrints). The lines of the cells up to 6 are
 -- computed. No link of the window names a cell from 7 on, so each of these is a group of its own and has no line.
-use Prim.Native.Nat.{ℕ, zero, suc, _+_, _≤_}
+use Prim.Native.Nat.{ℕ, _≤_}
 use mathlib.Core.Path.{_≡_, refl, sym, _∙_, ap}
-use mathlib.Core.Bool.{Bool, true, false, _&&_}
-use mathlib.Core.List.{List, [], _∷_, _++_, append-assoc, append-nil, List·Memᴰ, List·Memᴰ·head, List·Memᴰ·tail}
+use mathlib.Core.Bool.{true}
+use mathlib.Core.List.{List, [], _∷_, _++_, append-nil}
 use mathlib.Core.Option.{some}
-use native.Mathlib.Nat.{add-zero, zero-add, suc-add}
 use native.Mathlib.Omega.{arith}
-use lib.Dec.{eqb}
-use lib.ListN.{length, replicate}
-use borrow.Author.Tests.{le-ltb}
+use lib.ListN.{replicate}
 use Rattle.numbers.specs.Checks.{firstOf}
 use Rattle.graph.specs.Link.{Linked, along, against, here, there, chains}
-use Rattle.graph.proofs.Chains.{chained-alone}
 use Rattle.settings.specs.Settings.{takenNumber}
 use Rattle.settings.specs.declared.Settings.{Settings}
 use Rattle.cells.specs.Cell.{lorryCellOver}
@@ -28,60 +24,10 @@ use Rattle.window_groups.specs.Groups.{filter, smallest, leastWith, leastOver}
 use Rattle.text.specs.Text.{digits, decimal, fields, line}
 use Rattle.listing.specs.Lines.{linksWord, groupWord, groupLineIf, linesOf}
 use Rattle.listing.specs.Listing.{windowLine, listingText}
-use Rattle.promises.specs.History.{Call, opening, link, Stored, History, ofSlides, howMany, numberIn, added, addedByNumber, firstByNumber, oneMore, historyFrom, historyOf, windowOf}
-use Rattle.promises.specs.Listed.{
-  recordCalls,
-  fileCalls,
-  refusalBy,
-  firstRefusal,
-  recordRefusal,
-  groupIn,
-  holdWithin,
-  leastHoldIn,
-  linkCountIn,
-  groupLineIn,
-  Rising,
-  none,
-  next,
-  historyText,
-  exampleFile,
-  exampleText,
-}
-use Rattle.promises.proofs.ListedMeans.{members, group-rises}
+use Rattle.promises.specs.History.{Call, opening, link, Stored, History, ofSlides, howMany, numberIn, added, addedByNumber, firstByNumber, oneMore, historyFrom, historyOf}
+use Rattle.promises.specs.Listed.{recordCalls, fileCalls, refusalBy, firstRefusal, recordRefusal, holdWithin, linkCountIn, groupLineIn, historyText, exampleFile, exampleText}
+use Rattle.promises.proofs.ListedLines.{no-line, no-lines, lines-apart}
 use Rattle.promises.proofs.ListedPrints.{history-printed}
-
--- ---- cells without a line
-
--- a rising list that has no cell but c has one at most
-only-one : {k c : ℕ} {cs : List ℕ} → Rising k cs → ((d : ℕ) → List·Memᴰ d cs → c ≡ d) → length cs ≤ 1
-only-one none only = omega arith
-only-one (next h none) only = omega arith
-only-one (next {x = x} h (next {x = y} k on)) only =
-    absurd (omega (arith, only x (List·Memᴰ·head refl), only y (List·Memᴰ·tail (List·Memᴰ·head refl))))
-
--- a cell that no link of the window names
-no-line : (h : History) (c : ℕ) → ((d : ℕ) → Linked c d (windowOf h) → ⊥) → groupLineIn h c ≡ []
-unfolding groupLineIf
-no-line h c unnamed = rw (le-ltb 1 (length (groupIn h c)) alone) (go (eqb (smallest (groupIn h c)) c))
-  where
-    alone : length (groupIn h c) ≤ 1
-    alone = only-one (group-rises h c) (λ d m. chained-alone unnamed (members h c d .0 m .1))
-
-    go : (t : Bool) → groupLineIf (t && false) c (length (groupIn h c)) (leastHoldIn h c) ≡ []
-    go true = refl
-    go false = refl
-
-no-lines : (text : ℕ → List ℕ) (i n : ℕ) → ((c : ℕ) → i ≤ c → text c ≡ []) → linesOf text (countFrom i n) ≡ []
-unfolding linesOf countFrom
-no-lines text i zero quiet = refl
-no-lines text i (suc n) quiet = rw (quiet i (omega arith)) (no-lines text (suc i) n (λ c h. quiet c (omega arith)))
-
-lines-apart : (text : ℕ → List ℕ) (i n m : ℕ) → linesOf text (countFrom i (n + m)) ≡ linesOf text (countFrom i n) ++ linesOf text (countFrom (i + n) m)
-unfolding linesOf countFrom
-lines-apart text i zero m = rw (zero-add m, add-zero i)
-lines-apart text i (suc n) m =
-    let next : suc i + n ≡ i + suc n = omega arith in
-    rw (suc-add n m, lines-apart text (suc i) n m, next) (sym (append-assoc (text i) _ _))
 
 -- ---- the calls of the example, and the history that they tell
 
