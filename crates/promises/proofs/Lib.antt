@@ -17,6 +17,7 @@ pub mod ListedCalls
 pub mod ListedCount
 pub mod ListedExample
 pub mod ListedGroups
+pub mod ListedLines
 pub mod ListedMeans
 pub mod ListedPrints
 pub mod ListedRecords

@@ -3,19 +3,19 @@
 -- Record by record: the link call gives the number that the history gives (NumbersAgree). Where that is 0, book and log agree with the history
 -- after the call (Keeps), and the rest is played from there. Where it is not, the call has changed nothing (Refused), and playing stops.
 use Prim.Native.Nat.{ℕ, zero, suc, _+_}
-use mathlib.Core.Path.{_≡_, refl, sym, _∙_, ap, subst, subst⁻¹}
+use mathlib.Core.Path.{_≡_, refl, sym, _∙_, ap, subst}
 use mathlib.Core.Bool.{true}
-use mathlib.Core.List.{List, [], _∷_}
+use mathlib.Core.List.{List}
 use native.Mathlib.Nat.{zero-add}
 use native.Mathlib.Omega.{arith}
 use lib.ListN.{take}
 use Rattle.file.specs.Format.{readNumber, readOf}
 use Rattle.file.proofs.Files.{read-number}
-use Rattle.book.specs.Calls.{Outcome, linkOf}
+use Rattle.book.specs.Calls.{Outcome}
 use Rattle.file_play.specs.Play.{Play, recordGives, playByNumber, playFrom, fileByNumber, playOf}
-use Rattle.promises.specs.History.{Call, History, numberIn, added, addedByNumber}
+use Rattle.promises.specs.History.{History, numberIn, added, addedByNumber}
 use Rattle.promises.specs.Implementation.{ours, State, stateOf, gives, after}
-use Rattle.promises.specs.Listed.{recordCall, recordCalls, linkCalls, Refusal, refusalBy, firstRefusal, playedState, Plays}
+use Rattle.promises.specs.Listed.{recordCall, recordCalls, Refusal, refusalBy, firstRefusal, playedState, Plays}
 use Rattle.promises.proofs.Agrees.{Agrees}
 use Rattle.promises.proofs.NumbersAgree.{number-agrees}
 use Rattle.promises.proofs.Keeps.{step}
@@ -51,7 +51,7 @@ unfolding recordCalls firstRefusal refusalBy playFrom playByNumber
 played-refusal file zero i h s a = refl
 played-refusal file (suc more) i h s a =
     rw (← (record-number a file i))
-    (go (given file i s .number) (λ e. played-refusal file more (suc i) (added h (recordCall file i)) (stateOf (given file i s)) (record-agrees a file i e)) refl)
+    (go (given file i s .number) (λ e. played-refusal file more (suc i) _ (stateOf (given file i s)) (record-agrees a file i e)) refl)
   where
     later : Refusal
     later = firstRefusal (suc i) (added h (recordCall file i)) (recordCalls file (suc i) more)
@@ -76,7 +76,8 @@ played-whole file (suc more) i s e = go (given file i s .number) (played-whole f
     calls = after ours (stateOf (given file i s)) (recordCalls file (suc i) more)
 
     go : (k : ℕ) → (rest file i more s .number ≡ 0 → playedState (rest file i more s) ≡ calls)
-        → playByNumber k i (given file i s) (rest file i more s) .number ≡ 0 → playedState (playByNumber k i (given file i s) (rest file i more s)) ≡ calls
+        → playByNumber k i (given file i s) (rest file i more s) .number ≡ 0
+        → playedState (playByNumber k i (given file i s) (rest file i more s)) ≡ calls
     go zero on e = on e
     go (suc k) on e = absurd (omega arith)
 
@@ -100,24 +101,16 @@ calls-made file (suc more) i s = go (given file i s .number) refl (calls-made fi
 
 -- ---- the play call
 
-module _ (file : List ℕ) {h : History} {s : State} (a : Agrees h s) where
-  played : readNumber file ≡ 0 → playOf file (s .book) (s .log) ≡ playing file 0 (readOf file .m) s
+module _ (file : List ℕ) (fine : readNumber file ≡ 0) {h : History} {s : State} (a : Agrees h s) where
+  played : playOf file (s .book) (s .log) ≡ playing file 0 (readOf file .m) s
   unfolding playOf fileByNumber
-  played e = rw (read-number file ∙ e)
-
-  not-played : (k : ℕ) → (k ≡ 0 → ⊥) → fileByNumber k file (readOf file .m) (s .book) (s .log) ≡ record { book = s .book; log = s .log; number = k; taken = 0 }
-  unfolding fileByNumber
-  not-played zero n = absurd (n refl)
-  not-played (suc k) n = refl
+  played = rw (read-number file ∙ fine)
 
   pub plays-told : Plays file s h (playOf file (s .book) (s .log))
-  unfolding playOf
   plays-told =
-      record {
-        unread = λ n. rw (read-number file) (not-played (readNumber file) n);
-        refusal = λ e. rw (played e) (played-refusal file (readOf file .m) 0 h s a);
-        calls = λ e.
-            let m : Made file 0 (readOf file .m) s (playing file 0 (readOf file .m) s) = calls-made file (readOf file .m) 0 s in
-            rw (played e, m .place ∙ zero-add _) (m .made);
-        whole = λ e. rw (played e) (played-whole file (readOf file .m) 0 s);
+      let m : Made file 0 (readOf file .m) s (playing file 0 (readOf file .m) s) = calls-made file (readOf file .m) 0 s in
+      rw played record {
+        refusal = played-refusal file (readOf file .m) 0 h s a;
+        calls = rw (m .place ∙ zero-add (m .before)) (m .made);
+        whole = played-whole file (readOf file .m) 0 s;
       }

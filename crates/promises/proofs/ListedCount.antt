@@ -9,7 +9,7 @@ use mathlib.Core.List.{List, [], _∷_}
 use native.Mathlib.Omega.{arith}
 use lib.Dec.{eqb, leb, ltb}
 use lib.ListN.{length, length-append, length-map, length-reverse}
-use borrow.Author.Tests.{eqb-true, eqb-false, eq-eqb, ne-eqb, le-leb, lt-leb, lt-ltb, leb-true, ltb-true}
+use borrow.Author.Tests.{eqb-true, eqb-false, le-leb, lt-leb, lt-ltb, leb-true, ltb-true}
 use Rattle.slides.specs.Clock.{openSlide}
 use Rattle.book_state.specs.Log.{labelled}
 use Rattle.window.specs.Window.{windowSlides, linksOfAge, slideLinks, linksFromAge, windowLinks}

@@ -2,83 +2,55 @@
 --
 -- Its calls tell a history (computed), and what is printed is the text of that history (ListedPrints). The lines of the cells up to 6 are
 -- computed. No link of the window names a cell from 7 on, so each of these is a group of its own and has no line.
-use Prim.Native.Nat.{ℕ, zero, suc, _+_, _≤_, _<_}
+use Prim.Native.Nat.{ℕ, _≤_}
 use mathlib.Core.Path.{_≡_, refl, sym, _∙_, ap}
-use mathlib.Core.Bool.{Bool, true, false, cond, _&&_}
-use mathlib.Core.List.{List, [], _∷_, _++_, append-assoc, append-nil, List·Memᴰ, List·Memᴰ·head, List·Memᴰ·tail}
+use mathlib.Core.Bool.{true}
+use mathlib.Core.List.{List, [], _∷_, _++_, append-nil}
 use mathlib.Core.Option.{some}
-use native.Mathlib.Nat.{add-zero, zero-add, suc-add}
 use native.Mathlib.Omega.{arith}
-use lib.Dec.{eqb, ltb}
-use lib.ListN.{length, replicate}
-use borrow.Author.Tests.{le-ltb}
+use lib.ListN.{replicate}
 use Rattle.numbers.specs.Checks.{firstOf}
-use Rattle.graph.specs.Link.{Link, Linked, along, against, here, there, Chained, chains}
-use Rattle.graph.proofs.Chains.{chained-alone}
+use Rattle.graph.specs.Link.{Linked, along, against, here, there, chains}
 use Rattle.settings.specs.Settings.{takenNumber}
+use Rattle.settings.specs.declared.Settings.{Settings}
 use Rattle.cells.specs.Cell.{lorryCellOver}
 use Rattle.slides.specs.Clock.{notBefore, slideOf, movedTo}
 use Rattle.forest.specs.Arrays.{countFrom}
 use Rattle.book_state.specs.Arrays.{cells}
 use Rattle.file.specs.Layout.{fromLittleEndian, settingsOf}
 use Rattle.file.specs.Format.{recordsFit, lengthFits, same, lettersStand, offsetAgrees, padsZero, readNumber, readOf}
+use Rattle.file.proofs.Files.{read-number}
 use Rattle.window_groups.specs.Groups.{filter, smallest, leastWith, leastOver}
 use Rattle.text.specs.Text.{digits, decimal, fields, line}
-use Rattle.listing.specs.Lines.{linksWord, groupWord, groupLineIf, groupLine, linesOf}
+use Rattle.listing.specs.Lines.{linksWord, groupWord, groupLineIf, linesOf}
 use Rattle.listing.specs.Listing.{windowLine, listingText}
-use Rattle.promises.specs.History.{Stored, History, ofSlides, howMany, numberIn, added, addedByNumber, firstByNumber, oneMore, historyFrom, historyOf, windowOf}
-use Rattle.promises.specs.Listed.{
-  recordCalls,
-  fileCalls,
-  refusalBy,
-  firstRefusal,
-  recordRefusal,
-  groupIn,
-  holdWithin,
-  leastHoldIn,
-  linkCountIn,
-  groupLineIn,
-  Rising,
-  none,
-  next,
-  historyText,
-  exampleFile,
-  exampleText,
-}
-use Rattle.promises.proofs.ListedMeans.{members, group-rises}
+use Rattle.promises.specs.History.{Call, opening, link, Stored, History, ofSlides, howMany, numberIn, added, addedByNumber, firstByNumber, oneMore, historyFrom, historyOf}
+use Rattle.promises.specs.Listed.{recordCalls, fileCalls, refusalBy, firstRefusal, recordRefusal, holdWithin, linkCountIn, groupLineIn, historyText, exampleFile, exampleText}
+use Rattle.promises.proofs.ListedLines.{no-line, no-lines, lines-apart}
 use Rattle.promises.proofs.ListedPrints.{history-printed}
 
--- ---- cells without a line
+-- ---- the calls of the example, and the history that they tell
 
--- a rising list that has no cell but c has one at most
-only-one : {k c : ℕ} {cs : List ℕ} → Rising k cs → ((d : ℕ) → List·Memᴰ d cs → c ≡ d) → length cs ≤ 1
-only-one none only = omega arith
-only-one (next h none) only = omega arith
-only-one (next {x = x} h (next {x = y} k on)) only =
-    absurd (omega (arith, only x (List·Memᴰ·head refl), only y (List·Memᴰ·tail (List·Memᴰ·head refl))))
+abbrev settings : Settings
+settings = record { t0 = 0; b = 10; n = 3; mounting = 1 }
 
--- a cell that no link of the window names
-no-line : (h : History) (c : ℕ) → ((d : ℕ) → Linked c d (windowOf h) → ⊥) → groupLineIn h c ≡ []
-unfolding groupLineIf
-no-line h c unnamed = rw (le-ltb 1 (length (groupIn h c)) (only-one (group-rises h c) (λ d m. chained-alone unnamed (members h c d .0 m .1)))) (go (eqb (smallest (groupIn h c)) c))
-  where
-    go : (t : Bool) → groupLineIf (t && false) c (length (groupIn h c)) (leastHoldIn h c) ≡ []
-    go true = refl
-    go false = refl
+is-read : readOf exampleFile ≡ record { settings = settings; m = 5; number = 0 }
+unfolding firstOf fromLittleEndian settingsOf recordsFit lengthFits same lettersStand offsetAgrees padsZero readNumber readOf
+is-read = refl
 
-no-lines : (text : ℕ → List ℕ) (i n : ℕ) → ((c : ℕ) → i ≤ c → text c ≡ []) → linesOf text (countFrom i n) ≡ []
-unfolding linesOf countFrom
-no-lines text i zero quiet = refl
-no-lines text i (suc n) quiet = rw (quiet i (omega arith)) (no-lines text (suc i) n (λ c h. quiet c (omega arith)))
+abbrev links : List Call
+links = link 0 1 2 ∷ link 10 2 3 ∷ link 20 3 4 ∷ link 30 5 6 ∷ link 45 4 5 ∷ []
 
-lines-apart : (text : ℕ → List ℕ) (i n m : ℕ) → linesOf text (countFrom i (n + m)) ≡ linesOf text (countFrom i n) ++ linesOf text (countFrom (i + n) m)
-unfolding linesOf countFrom
-lines-apart text i zero m = rw (zero-add m, add-zero i)
-lines-apart text i (suc n) m =
-    let next : suc i + n ≡ i + suc n = omega arith in
-    rw (suc-add n m, lines-apart text (suc i) n m, next) (sym (append-assoc (text i) _ _))
+link-calls : recordCalls exampleFile 0 5 ≡ links
+unfolding recordCalls fromLittleEndian
+link-calls = refl
 
--- ---- the history of the example
+file-calls : fileCalls exampleFile ≡ opening settings ∷ links
+file-calls = rw is-read (ap (λ calls. opening settings ∷ calls) link-calls)
+
+none-refused : recordRefusal exampleFile .number ≡ 0
+unfolding firstRefusal refusalBy added numberIn firstOf ofSlides howMany notBefore slideOf movedTo lorryCellOver
+none-refused = rw (is-read, link-calls)
 
 abbrev stored : (slide one other : ℕ) → Stored
 stored slide one other = record { slide = slide; link = record { one = one; other = other } }
@@ -91,21 +63,9 @@ told =
       links = stored 4 4 5 ∷ stored 3 5 6 ∷ stored 2 3 4 ∷ stored 1 2 3 ∷ stored 0 1 2 ∷ [];
     }
 
-is-told : historyOf true (fileCalls exampleFile) ≡ some told
-unfolding historyFrom oneMore firstByNumber addedByNumber added numberIn firstOf ofSlides howMany notBefore slideOf movedTo lorryCellOver recordCalls fromLittleEndian settingsOf recordsFit lengthFits same lettersStand offsetAgrees padsZero readNumber readOf
-is-told = refl
-
-is-read : readNumber exampleFile ≡ 0
-unfolding firstOf fromLittleEndian settingsOf recordsFit lengthFits same lettersStand offsetAgrees padsZero readNumber
-is-read = refl
-
-is-taken : takenNumber (readOf exampleFile .settings) ≡ 0
-unfolding firstOf fromLittleEndian settingsOf recordsFit lengthFits same lettersStand offsetAgrees padsZero readNumber readOf
-is-taken = refl
-
-none-refused : recordRefusal exampleFile .number ≡ 0
-unfolding firstRefusal refusalBy added numberIn firstOf ofSlides howMany notBefore slideOf movedTo lorryCellOver recordCalls fromLittleEndian settingsOf recordsFit lengthFits same lettersStand offsetAgrees padsZero readNumber readOf
-none-refused = refl
+calls-tell : historyOf true (opening settings ∷ links) ≡ some told
+unfolding historyFrom oneMore firstByNumber addedByNumber added numberIn firstOf ofSlides howMany notBefore slideOf movedTo lorryCellOver
+calls-tell = refl
 
 -- ---- its lines
 
@@ -125,7 +85,8 @@ all-lines : linesOf (groupLineIn told) (countFrom 0 cells) ≡ line groupWord (3
 unfolding ofSlides slideOf
 all-lines =
     lines-apart (groupLineIn told) 0 7 1017
-    ∙ ap (λ later. linesOf (groupLineIn told) (countFrom 0 7) ++ later) (no-lines (groupLineIn told) 7 1017 (λ c h. no-line told c (λ d l. unnamed c d h l)))
+    ∙ ap (λ later. linesOf (groupLineIn told) (countFrom 0 7) ++ later)
+    (no-lines (groupLineIn told) 7 1017 (λ c h. no-line told c (λ d l. unnamed c d h l)))
     ∙ append-nil _ ∙ low-lines
 
 text-is : historyText told ≡ exampleText
@@ -133,4 +94,7 @@ unfolding historyText digits decimal fields ofSlides slideOf
 text-is = ap (λ lines. windowLine (told .clock) 1 ++ lines ++ line linksWord (linkCountIn told ∷ [])) all-lines
 
 pub example-told : listingText exampleFile ≡ exampleText
-example-told = history-printed exampleFile is-read is-taken none-refused told is-told ∙ text-is
+example-told =
+    history-printed exampleFile (sym (read-number exampleFile) ∙ ap (λ r. r .number) is-read) (ap (λ r. takenNumber (r .settings)) is-read)
+    none-refused told (ap (historyOf true) file-calls ∙ calls-tell)
+    ∙ text-is

@@ -18,7 +18,7 @@ use Rattle.window.specs.Window.{windowLinks, linksFromLabel, highest}
 use Rattle.window_groups.specs.Groups.{filter, smallest, groupOf, holdOf, leastHold, leastOver, ofCells, groupsOf}
 use Rattle.window_groups.specs.Call.{groupsByNumber, groupsGiven}
 use Rattle.listing.specs.Lines.{groupLine, linesOf, groupLines}
-use Rattle.promises.specs.History.{History, windowOf}
+use Rattle.promises.specs.History.{History}
 use Rattle.promises.specs.Implementation.{State}
 use Rattle.promises.specs.Listed.{groupIn, holdWithin, holdIn, leastHoldIn, groupsIn, GroupsTold, groupLineIn}
 use Rattle.promises.proofs.Agrees.{Agrees}

@@ -3,24 +3,22 @@
 --
 -- The chain call's hold is found by the very search of `holdIn` (ListedGroups). The least of a list of cells is that of its first cell with
 -- a later one, or that of the later ones; and as the cells rise, the two of a pair differ.
-use Prim.Native.Nat.{ℕ, zero, suc, _+_, _≤_, _<_, zero-le}
-use mathlib.Core.Path.{_≡_, refl, sym, _∙_, ap, subst⁻¹}
+use Prim.Native.Nat.{ℕ, zero, suc, _≤_, _<_, zero-le}
+use mathlib.Core.Path.{_≡_, refl, sym, _∙_, subst⁻¹}
 use mathlib.Core.Bool.{Bool, true, false, cond}
 use mathlib.Core.List.{List, [], _∷_, List·Memᴰ, List·Memᴰ·head, List·Memᴰ·tail}
 use mathlib.Core.Logic.{_↔_}
 use native.Mathlib.Nat.{le-refl}
 use native.Mathlib.Omega.{arith}
 use native.Mathlib.Decide.{decLe}
-use lib.Dec.{ltb}
 use lib.ListN.{length}
 use borrow.Author.Tests.{lt-ltb}
 use Rattle.graph.specs.Link.{Chained, chains}
 use Rattle.graph.proofs.Chains.{chained-sym, chained-trans, chains-true, true-chains}
 use Rattle.forest.specs.Arrays.{countFrom}
-use Rattle.numbers.specs.Checks.{has}
 use Rattle.book_state.specs.Arrays.{cells}
 use Rattle.book_state.specs.Numbers.{areCells}
-use Rattle.chain.specs.Chain.{chainPlaces, chainNumber, chainByNumber, chainOf}
+use Rattle.chain.specs.Chain.{chainNumber, chainByNumber, chainOf}
 use Rattle.window_groups.specs.Groups.{filter, smallest, holdOf, leastWith, leastOver}
 use Rattle.window_groups.proofs.Cells.{in-count, count-in, in-filter, filter-in}
 use Rattle.window_groups.proofs.LeastHold.{hold-most}
@@ -54,7 +52,8 @@ unfolding filter countFrom
 filter-rises test i zero = none
 filter-rises test i (suc n) = go (test i) (filter-rises test (suc i) n)
   where
-    go : (t : Bool) → Rising (suc i) (filter test (countFrom (suc i) n)) → Rising i (cond t (i ∷ filter test (countFrom (suc i) n)) (filter test (countFrom (suc i) n)))
+    go : (t : Bool) → Rising (suc i) (filter test (countFrom (suc i) n))
+        → Rising i (cond t (i ∷ filter test (countFrom (suc i) n)) (filter test (countFrom (suc i) n)))
     go true on = next (le-refl i) on
     go false on = rising-lower on
 
@@ -87,17 +86,39 @@ module _ (top : ℕ) (hold : ℕ → ℕ → ℕ) (most : (a b : ℕ) → hold a
     pub above : one < other
     pub is : hold one other ≡ leastOver top hold cs
 
+  -- c with that cell
+  first-pair : {c : ℕ} {ds : List ℕ} → Rising (suc c) ds → (w : With c ds) → leastOver top hold (c ∷ ds) ≡ hold c (w .cell) → Pair (c ∷ ds)
+  first-pair {c} on w e =
+      record {
+        one = c;
+        other = w .cell;
+        one-in = List·Memᴰ·head refl;
+        other-in = List·Memᴰ·tail (w .among);
+        above = rising-least on (w .among);
+        is = sym e;
+      }
+
+  -- a pair of the later ones
+  later-pair : {c : ℕ} {ds : List ℕ} (p : Pair ds) → leastOver top hold (c ∷ ds) ≡ hold (p .one) (p .other) → Pair (c ∷ ds)
+  later-pair p e =
+      record {
+        one = p .one;
+        other = p .other;
+        one-in = List·Memᴰ·tail (p .one-in);
+        other-in = List·Memᴰ·tail (p .other-in);
+        above = p .above;
+        is = sym e;
+      }
+
   least-pair : {k : ℕ} (c d : ℕ) (ds : List ℕ) → Rising k (c ∷ d ∷ ds) → Pair (c ∷ d ∷ ds)
   unfolding leastWith leastOver
-  least-pair c d [] (next h on) =
-      let w = least-with c d [] in
-      record { one = c; other = w .cell; one-in = List·Memᴰ·head refl; other-in = List·Memᴰ·tail (w .among); above = rising-least on (w .among); is = omega (arith, w .is, most c d) }
+  least-pair c d [] (next h on) = let w = least-with c d [] in first-pair on w (omega (arith, w .is, most c (w .cell)))
   least-pair c d (e ∷ es) (next h on) = go (least-with c d (e ∷ es)) (least-pair d e es on)
     where
       go : With c (d ∷ e ∷ es) → Pair (d ∷ e ∷ es) → Pair (c ∷ d ∷ e ∷ es)
       go w p = elim (decLe (hold c (w .cell)) (hold (p .one) (p .other))) [
-        | yes le ↦ record { one = c; other = w .cell; one-in = List·Memᴰ·head refl; other-in = List·Memᴰ·tail (w .among); above = rising-least on (w .among); is = omega (arith, w .is, p .is) }
-        | no more ↦ record { one = p .one; other = p .other; one-in = List·Memᴰ·tail (p .one-in); other-in = List·Memᴰ·tail (p .other-in); above = p .above; is = omega (arith, w .is, p .is) }
+        | yes le ↦ first-pair on w (omega (arith, w .is, p .is))
+        | no more ↦ later-pair p (omega (arith, w .is, p .is))
       ]
 
   pub pair-of : {k : ℕ} (cs : List ℕ) → Rising k cs → 2 ≤ length cs → Pair cs
@@ -175,7 +196,8 @@ module _ {h : History} {s : State} (agrees : Agrees h s) where
           reached = λ two. found (pair-of (h .clock .n) (holdIn h) (hold-few h (h .clock .n)) (groupIn h c) (group-rises h c) two);
         }
       where
-        least : (one other : ℕ) → List·Memᴰ one (groupIn h c) → List·Memᴰ other (groupIn h c) → (one ≡ other → ⊥) → leastHoldIn h c ≤ holdIn h one other
+        least : (one other : ℕ) → List·Memᴰ one (groupIn h c) → List·Memᴰ other (groupIn h c) → (one ≡ other → ⊥)
+            → leastHoldIn h c ≤ holdIn h one other
         least one other m n apart =
             hold-most (h .clock .n) (holdIn h) (holdIn h one other) m n apart (le-refl _) (rw (hold-sym h (h .clock .n) other one) (le-refl _))
 

@@ -14,25 +14,28 @@ use Rattle.numbers.proofs.Checks.{has-front}
 use Rattle.settings.specs.Settings.{takenNumber}
 use Rattle.settings.specs.declared.Settings.{Settings}
 use Rattle.file.specs.Format.{readNumber, readOf}
-use Rattle.file.specs.declared.Reading.{Reading}
 use Rattle.file.proofs.Files.{read-number}
+use Rattle.graph.proofs.Forests.{nothing-linked}
+use Rattle.slides.proofs.Slides.{started-slide}
+use Rattle.book_state.specs.Arrays.{cells}
 use Rattle.book_state.specs.Numbers.{logPlaces}
 use Rattle.book_state.specs.Order.{neverOpened}
 use Rattle.book.specs.Calls.{Outcome, Answer, openingNumber, openingOf}
 use Rattle.file_play.specs.Play.{Play, playFrom}
 use Rattle.text.specs.Text.{line}
-use Rattle.listing.specs.Lines.{linksWord, refusedFile, refusedRecord}
+use Rattle.listing.specs.Lines.{windowWord, linksWord, refusedFile, refusedRecord}
 use Rattle.listing.specs.Listing.{windowLine, windowText, bookText, listingText}
 use Rattle.listing.proofs.Stages.{reading-refused, Opened, opening-refused, PlayedInto, record-refused, book-listed}
-use Rattle.promises.specs.History.{opening, Call, History, begun, firstByNumber, oneMore, historyFrom, historyOf}
-use Rattle.promises.specs.Implementation.{ours, State, stateOf, gives, after}
-use Rattle.promises.specs.Listed.{linkCalls, fileCalls, Refusal, recordRefusal, playedState, historyText, Printed, Prints}
+use Rattle.promises.specs.History.{opening, Call, History, ofSlides, begun, firstByNumber, oneMore, historyFrom, historyOf}
+use Rattle.promises.specs.Implementation.{State, stateOf, gives, after}
+use Rattle.promises.specs.Listed.{recordCalls, linkCalls, fileCalls, firstRefusal, recordRefusal, groupLineIn, historyText, Printed, emptyText, Prints}
 use Rattle.promises.proofs.Agrees.{Agrees}
 use Rattle.promises.proofs.NumbersAgree.{opening-gives}
 use Rattle.promises.proofs.Keeps.{keeps}
 use Rattle.promises.proofs.ListedCalls.{played-refusal, played-whole}
 use Rattle.promises.proofs.ListedCount.{count-told}
 use Rattle.promises.proofs.ListedGroups.{lines-told}
+use Rattle.promises.proofs.ListedLines.{no-line, no-lines}
 
 -- the text of a book is the text of its history
 text-told : {h : History} {s : State} → Agrees h s → bookText (s .book) (s .log) ≡ historyText h
@@ -115,11 +118,26 @@ module _ (file : List ℕ) (fine : readNumber file ≡ 0) where
           book-listed played-into done
           ∙ text-told (subst (Agrees h) (sym (played-whole file (readOf file .m) 0 (stateOf outcome) done)) (keeps fresh (fileCalls file) h (rw fresh-room told)))
 
-      pub printed-told : Printed file
+      printed-told : Printed file
       printed-told =
           let t = still-told (linkCalls file) (begun settings) in
           let told = opening-tells settings (linkCalls file) taken ∙ t .is in
           record { history = t .history; told = told; text = history-printed (t .history) told }
+
+-- ---- a file without records
+
+empty-told : (s : Settings) → historyText (begun s) ≡ emptyText s
+unfolding historyText ofSlides
+empty-told s =
+    rw (started-slide s, no-lines (groupLineIn (begun s)) 0 cells (λ c _. no-line (begun s) c (λ d l. nothing-linked l)))
+    (ap (λ text. text ++ line linksWord (0 ∷ [])) (append-nil (line windowWord (s .n ∷ s .b ∷ s .mounting ∷ 0 ∷ []))))
+
+empty-printed : (file : List ℕ) → readNumber file ≡ 0 → takenNumber (readOf file .settings) ≡ 0 → readOf file .m ≡ 0
+    → listingText file ≡ emptyText (readOf file .settings)
+unfolding recordCalls firstRefusal historyFrom
+empty-printed file fine taken none =
+    history-printed file fine taken (rw none) (begun (readOf file .settings)) (opening-tells (readOf file .settings) (linkCalls file) taken ∙ rw none)
+    ∙ empty-told (readOf file .settings)
 
 pub prints-told : (file : List ℕ) → Prints file
 prints-told file =
@@ -128,4 +146,5 @@ prints-told file =
       unopened = λ fine n. opening-refused (opens file fine) (λ e. n (sym (opening-number file fine) ∙ e)) ∙ ap refusedFile (opening-number file fine);
       refused = refused-told file;
       printed = printed-told file;
+      empty = empty-printed file;
     }

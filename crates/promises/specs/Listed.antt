@@ -2,28 +2,31 @@
 --
 -- A file tells calls: an opening with its settings, and a link call for each record. What kerblist prints for it is said here of the
 -- history of those calls, or of the first of them that is refused.
-use Prim.Native.Nat.{ℕ, zero, suc, _+_, _*_, _^_, _≤_, _<_}
+use Prim.Native.Nat.{ℕ, zero, suc, _+_, _*_, _≤_, _<_}
 use mathlib.Core.Path.{_≡_}
 use mathlib.Core.Bool.{true, cond}
 use mathlib.Core.List.{List, [], _∷_, _++_, List·Memᴰ}
 use mathlib.Core.Logic.{_↔_}
 use mathlib.Core.Option.{some}
-use lib.ListN.{length, getD, take, drop}
+use lib.ListN.{length, take, drop}
 use Rattle.numbers.specs.Kinds.{Bytes, Cell, Number}
 use Rattle.numbers.specs.Checks.{firstOf, unless, has}
 use Rattle.graph.specs.Link.{Chained, chains}
 use Rattle.settings.specs.Settings.{takenNumber}
+use Rattle.settings.specs.declared.Settings.{Settings}
 use Rattle.forest.specs.Arrays.{countFrom}
 use Rattle.book_state.specs.Arrays.{cells}
 use Rattle.file.specs.Format.{readNumber, readOf}
 use Rattle.file.specs.Layout.{recordBytes, tickAt, oneAt, otherAt}
+use Rattle.file.proofs.Bytes.{AreBytes}
+use Rattle.file.proofs.Records.{FitsRecord}
 use Rattle.file_play.specs.Play.{Play, playOf}
 use Rattle.file_play.specs.Record.{packedOf, recordOf}
 use Rattle.window_groups.specs.declared.Groups.{Groups}
 use Rattle.window_groups.specs.Groups.{filter, smallest, leastOver, ofCells}
 use Rattle.window_groups.specs.Call.{groupsByNumber, groupsGiven}
 use Rattle.text.specs.Text.{line}
-use Rattle.listing.specs.Lines.{linksWord, refusedFile, refusedRecord, groupLine, linesOf}
+use Rattle.listing.specs.Lines.{windowWord, linksWord, refusedFile, refusedRecord, groupLine, linesOf}
 use Rattle.listing.specs.Listing.{windowLine, listingText}
 use Rattle.chain.specs.Chain.{chainPlaces}
 use Rattle.promises.specs.History.{Call, opening, link, History, historyOf, numberIn, begun, added, openSlideIn, linksOf, windowAt, windowOf}
@@ -71,15 +74,13 @@ firstRefusal place h (c ∷ cs) = refusalBy (numberIn true h c) place (firstRefu
 abbrev pub playedState : Play → State
 playedState p = record { book = p .book; log = p .log }
 
--- what playing a file gives on a book that calls have left
+-- what playing a file that the reader takes gives on a book that calls have left
 pub record Plays (file : Bytes) (s : State) (h : History) (play : Play) : Type 0 where
-  -- a file that the reader refuses changes nothing (RULES 7.4)
-  pub unread : (readNumber file ≡ 0 → ⊥) → play ≡ record { book = s .book; log = s .log; number = readNumber file; taken = 0 }
   -- the number and the place are those of the first refusal (RULES 6.7)
-  pub refusal : readNumber file ≡ 0 → firstRefusal 0 h (linkCalls file) ≡ record { place = play .taken; number = play .number }
+  pub refusal : firstRefusal 0 h (linkCalls file) ≡ record { place = play .taken; number = play .number }
   -- as many calls as were taken, one after the other; with number 0 those of all records (RULES 6.6)
-  pub calls : readNumber file ≡ 0 → playedState play ≡ after ours s (take (play .taken) (linkCalls file))
-  pub whole : readNumber file ≡ 0 → play .number ≡ 0 → playedState play ≡ after ours s (linkCalls file)
+  pub calls : playedState play ≡ after ours s (take (play .taken) (linkCalls file))
+  pub whole : play .number ≡ 0 → playedState play ≡ after ours s (linkCalls file)
 
 -- ---- groups
 
@@ -94,7 +95,7 @@ holdWithin (suc c) h one other =
     let sooner : ℕ = holdWithin c h one other in
     cond (chains (linksOf (windowAt h (openSlideIn h + suc c))) one other) (suc c) sooner
 
--- the hold: after n closings no link of today is left
+-- the hold; after n closings no link of today's window is left
 abbrev pub holdIn : (history : History) (one other : Cell) → ℕ
 holdIn h one other = holdWithin (h .clock .n) h one other
 
@@ -143,8 +144,8 @@ pub record PairOf (s : State) (group : List Cell) (hold : ℕ) : Type 0 where
   pub different : one < other
   pub holds : ChainHold s one other (λ k. k ≡ hold)
 
--- what these definitions mean: a group is a class of cells that the window's links chain, each cell in it once; no pair of it has a
--- hold, by the chain call, below the least, and some pair has it
+-- what these definitions mean: a group is a class of cells that the window's links chain, each cell in it once; the chain call gives no
+-- pair of it a hold below the least, and gives the least to some pair
 pub record GroupMeans (s : State) (h : History) (c : Cell) : Type 0 where
   pub members : (d : ℕ) → List·Memᴰ d (groupIn h c) ↔ ((d < cells) × Chained (windowOf h) c d)
   pub once : Rising 0 (groupIn h c)
@@ -176,6 +177,9 @@ pub record Printed (file : Bytes) : Type 0 where
 abbrev pub recordRefusal : (file : Bytes) → Refusal
 recordRefusal file = firstRefusal 0 (begun (readOf file .settings)) (linkCalls file)
 
+abbrev pub emptyText : (settings : Settings) → Bytes
+emptyText s = line windowWord (s .n ∷ s .b ∷ s .mounting ∷ 0 ∷ []) ++ line linksWord (0 ∷ [])
+
 -- the listing of a file, by what is refused first (RULES 8.6)
 pub record Prints (file : Bytes) : Type 0 where
   pub unread : (readNumber file ≡ 0 → ⊥) → listingText file ≡ refusedFile (readNumber file)
@@ -184,23 +188,23 @@ pub record Prints (file : Bytes) : Type 0 where
   pub refused : readNumber file ≡ 0 → takenNumber (readOf file .settings) ≡ 0 → (recordRefusal file .number ≡ 0 → ⊥) →
       listingText file ≡ refusedRecord (recordRefusal file .number) (recordRefusal file .place)
   pub printed : readNumber file ≡ 0 → takenNumber (readOf file .settings) ≡ 0 → recordRefusal file .number ≡ 0 → Printed file
+  -- without records: slide 0 is open, and there is no group and no link (RULES 8.7)
+  pub empty : readNumber file ≡ 0 → takenNumber (readOf file .settings) ≡ 0 → readOf file .m ≡ 0 →
+      listingText file ≡ emptyText (readOf file .settings)
 
 -- ---- records
 
--- a tick and two cells as a record holds them (RULES 6.2)
-pub record Fits (tick one other : ℕ) : Type 0 where
-  pub tick-fits : tick < 2 ^ 32
-  pub one-fits : one < 2 ^ 16
-  pub other-fits : other < 2 ^ 16
-
--- what is packed is taken out again, and wherever a record stands in a file, that is the link call that playing makes of it; and the
--- other way round, the 8 bytes of each record are its fields packed
-pub record Records : Type 0 where
-  pub packed : (tick one other : ℕ) → Fits tick one other → (out : Bytes) → 8 ≤ length out →
+-- a tick and two cells packed into a record: what is taken out of it again, and the link call that playing makes of it, wherever it
+-- stands in a file
+pub record RecordRead (tick one other : ℕ) : Type 0 where
+  pub taken : (out : Bytes) → 8 ≤ length out →
       recordOf (packedOf tick one other out) 0 ≡ record { tick = tick; one = one; other = other; number = 0 }
-  pub played : (tick one other : ℕ) → Fits tick one other → (before rest : Bytes) (i : ℕ) → length before ≡ 8 * i →
-      recordCall (before ++ (recordBytes tick one other ++ rest)) i ≡ link tick one other
-  pub again : (file : Bytes) → ((place : ℕ) → getD file place 0 < 256) → (i : ℕ) → 8 * i + 8 ≤ length file →
+  pub played : (before rest : Bytes) (i : ℕ) → length before ≡ 8 * i → recordCall (before ++ (recordBytes tick one other ++ rest)) i ≡ link tick one other
+
+-- so for all that fit their fields (RULES 6.2); and the other way round, the 8 bytes of each record of a file are its fields packed
+pub record Records : Type 0 where
+  pub read : (tick one other : ℕ) → FitsRecord tick one other → RecordRead tick one other
+  pub again : (file : Bytes) → AreBytes file → (i : ℕ) → 8 * i + 8 ≤ length file →
       recordBytes (tickAt file i) (oneAt file i) (otherAt file i) ≡ take 8 (drop (8 * i) file)
 
 -- ---- the worked case (RULES 9.3)
@@ -231,9 +235,9 @@ exampleText =
 -- ---- the demand
 
 pub record Listed : Type 0 where
-  pub plays : (file : Bytes) → AfterCalls ours λ s h. Plays file s h (playOf file (s .book) (s .log))
+  pub plays : (file : Bytes) → readNumber file ≡ 0 → AfterCalls ours λ s h. Plays file s h (playOf file (s .book) (s .log))
   pub groups : AfterCalls ours GroupsTold
-  pub means : AfterCalls ours λ s h. (c : ℕ) → c < cells → GroupMeans s h c
+  pub means : AfterCalls ours λ s h. (c : ℕ) → GroupMeans s h c
   pub prints : (file : Bytes) → Prints file
   pub records : Records
   pub example : listingText exampleFile ≡ exampleText
