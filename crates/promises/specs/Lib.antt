@@ -4,6 +4,7 @@ pub mod Demands
 pub mod Fakes
 pub mod History
 pub mod Implementation
+pub mod Listed
 pub mod Promise
 pub mod Routines
 pub mod WindowIs

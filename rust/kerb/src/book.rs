@@ -174,7 +174,7 @@ impl Book {
     /// write(settings, &records, &mut file)?;
     ///
     /// let book = Book::of_file(&file)?;
-    /// assert_eq!(book.open_slide(), 0);
+    /// assert_eq!((book.time(), book.open_slide()), (7, 0));
     /// assert_eq!(book.slide_ticks(1), Some((10, 19)));
     /// let groups = book.groups()?;
     /// assert_eq!(groups.links(), 2);
@@ -211,6 +211,11 @@ impl Book {
             &mut groups.hold,
         )?;
         Ok(groups)
+    }
+
+    /// The latest tick that the book has taken.
+    pub fn time(&self) -> u32 {
+        self.raw.clock.time
     }
 
     /// The open slide, that of the book's time.

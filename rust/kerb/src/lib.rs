@@ -51,6 +51,10 @@ pub const CHAIN_PLACES: usize = 1024;
 pub const LISTING_BYTES: usize = 20_480;
 /// Bytes of a record of a link file.
 pub const RECORD_BYTES: usize = 8;
+/// Bytes of a link file beside its records: settings and trailer.
+pub const ENDING_BYTES: usize = 24;
+/// Bytes of the longest link file.
+pub const FILE_BYTES: usize = 64_024;
 
 /// What a book opens with and a link file carries. There is no default: each panel has to say how its unit is fitted.
 #[derive(Clone, Copy, Debug, PartialEq, Eq)]

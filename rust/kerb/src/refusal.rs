@@ -31,6 +31,24 @@ impl Refusal {
         self as u8
     }
 
+    /// What the number says.
+    pub fn meaning(self) -> &'static str {
+        match self {
+            Refusal::NoBook => "the book was never opened, or was altered beyond its ranges",
+            Refusal::Settings => "n, B or the mounting is outside its values",
+            Refusal::NoCell => "a cell is 1024 or more",
+            Refusal::Early => "the tick is before the book's time",
+            Refusal::Full => "the link's slide already holds 256 links",
+            Refusal::Short => "a lent buffer is too short",
+            Refusal::NoTrail => "no links of the window chain the two cells",
+            Refusal::LongTrail => "the chain would have more than 1,024 cells",
+            Refusal::Length => "the length is that of no link file, or of no records",
+            Refusal::Letters => "the last four bytes of the file are not KERB",
+            Refusal::Offset => "the file's offset and count do not agree with its length",
+            Refusal::Pad => "a pad byte of the file is not zero",
+        }
+    }
+
     pub(crate) fn unless_done(number: u8) -> Result<(), Refusal> {
         let refusal = match number {
             0 => return Ok(()),
@@ -54,21 +72,7 @@ impl Refusal {
 
 impl fmt::Display for Refusal {
     fn fmt(&self, f: &mut fmt::Formatter) -> fmt::Result {
-        let text = match self {
-            Refusal::NoBook => "the book was never opened, or was altered beyond its ranges",
-            Refusal::Settings => "n, B or the mounting is outside its values",
-            Refusal::NoCell => "a cell is 1024 or more",
-            Refusal::Early => "the tick is before the book's time",
-            Refusal::Full => "the link's slide already holds 256 links",
-            Refusal::Short => "a lent buffer is too short",
-            Refusal::NoTrail => "no links of the window chain the two cells",
-            Refusal::LongTrail => "the chain would have more than 1,024 cells",
-            Refusal::Length => "the length is that of no link file, or of no records",
-            Refusal::Letters => "the last four bytes of the file are not KERB",
-            Refusal::Offset => "the file's offset and count do not agree with its length",
-            Refusal::Pad => "a pad byte of the file is not zero",
-        };
-        write!(f, "number {}: {text}", self.number())
+        write!(f, "number {}: {}", self.number(), self.meaning())
     }
 }
 

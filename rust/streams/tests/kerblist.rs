@@ -1,4 +1,4 @@
-//! What the proved program kerblist prints, compared with what the oracle says
+//! What the proved program kerblist prints, and its status, compared with what the oracle says
 //! that it must: files at the ends of the lengths, a good file with each field
 //! damaged in turn, and random files, good and damaged. The program is run by
 //! the script `kerblist` of the repository, which builds it where it is missing.
@@ -10,19 +10,20 @@ use std::process::{Command, Stdio};
 use streams::files::{damage, edge_files, every_field, valid_file};
 use streams::Dice;
 
-fn kerblist(file: &[u8]) -> String {
+fn kerblist(file: &[u8]) -> (String, Option<i32>) {
     let script = concat!(env!("CARGO_MANIFEST_DIR"), "/../../kerblist");
     let mut program = Command::new(script)
         .stdin(Stdio::piped())
         .stdout(Stdio::piped())
+        .stderr(Stdio::piped())
         .spawn()
         .expect("the script kerblist starts");
     // The program stops reading where a file is too long: then the rest of the
     // bytes find no reader, and that is no fault.
     let _ = program.stdin.take().expect("its input").write_all(file);
     let output = program.wait_with_output().expect("its output");
-    assert!(output.status.success());
-    String::from_utf8(output.stdout).expect("text")
+    let text = String::from_utf8(output.stdout).expect("text");
+    (text, output.status.code())
 }
 
 /// The first word and, of a refusal, the number: which kind of listing it is.
@@ -47,8 +48,10 @@ fn kerblist_prints_what_the_oracle_prints() {
     }
     let mut seen = BTreeMap::new();
     for file in &files {
-        let text = kerblist(file);
+        let (text, status) = kerblist(file);
         assert_eq!(text, listing(file), "a file of {} bytes", file.len());
+        let wanted = if kind(&text) == "listed" { 0 } else { 2 };
+        assert_eq!(status, Some(wanted), "{}", text);
         *seen.entry(kind(&text)).or_insert(0) += 1;
     }
     println!("{} files: {:?}", files.len(), seen);

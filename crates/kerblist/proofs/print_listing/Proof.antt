@@ -1,27 +1,15 @@
--- `kerblist::main` is safe and ends: what is listed stands within the output.
+-- `kerblist::print_listing` is safe and ends: what is listed stands within the output.
 use Prim.Native.Nat.{_≤_}
 use mathlib.Core.Path.{sym}
 use lib.ListN.{length}
 use lib.Seq.{length-take-le}
 use Rattle.listing.proofs.Stages.{listed-within}
 use borrow.Author.Needs.{needs}
-use Rattle.kerblist.proofs.main.Statement.{statement}
-use Rattle.kerblist.proofs.main.Tie as tie
-
-slice-aggregate-read-full : tie.Need-slice-aggregate-read-full
-slice-aggregate-read-full c = search needs
-
-read-full-requires : tie.Need-read-full-requires
-read-full-requires c κs = search needs
-
-array-share-prefix-file : tie.Need-array-share-prefix-file
-array-share-prefix-file c = search needs
+use Rattle.kerblist.proofs.print_listing.Statement.{statement}
+use Rattle.kerblist.proofs.print_listing.Tie as tie
 
 slice-aggregate-list : tie.Need-slice-aggregate-list
 slice-aggregate-list c = search needs
-
-slice-aggregate-list-2 : tie.Need-slice-aggregate-list-2
-slice-aggregate-list-2 c = search needs
 
 list-requires : tie.Need-list-requires
 list-requires c κs = search needs
@@ -39,20 +27,28 @@ slice-aggregate-write-all c = sym (length-take-le _ _ (within (c .before .before
 write-all-requires : tie.Need-write-all-requires
 write-all-requires c κs = search needs
 
+slice-aggregate-write-all-2 : tie.Need-slice-aggregate-write-all-2
+slice-aggregate-write-all-2 c = search needs
+
+write-all-requires-2 : tie.Need-write-all-requires-2
+write-all-requires-2 c κs = search needs
+
 returns : tie.Need-returns
 returns c = search needs
 
-pub main-spec : {M : Type 1} → statement M
-main-spec =
+returns-2 : tie.Need-returns-2
+returns-2 c = search needs
+
+pub print-listing-spec : {M : Type 1} → statement M
+print-listing-spec =
     tie.close
     (tie.spec
-    slice-aggregate-read-full
-    read-full-requires
-    array-share-prefix-file
     slice-aggregate-list
-    slice-aggregate-list-2
     list-requires
     array-share-prefix-out
     slice-aggregate-write-all
     write-all-requires
-    returns)
+    slice-aggregate-write-all-2
+    write-all-requires-2
+    returns
+    returns-2)

@@ -1,0 +1,227 @@
+//! The command line: which question, of which recording.
+
+use crate::help;
+use crate::trouble::Trouble;
+use kerb::{LorryCell, Mounting};
+use std::ffi::{OsStr, OsString};
+use std::path::PathBuf;
+
+/// Where the recording comes from.
+#[derive(Debug, PartialEq)]
+pub enum Input {
+    Standard,
+    File(PathBuf),
+}
+
+/// A question, and whether the answer is wanted as JSON.
+#[derive(Debug, PartialEq)]
+pub struct Request {
+    pub question: Question,
+    pub json: bool,
+}
+
+#[derive(Debug, PartialEq)]
+pub enum Question {
+    /// A text of `help`.
+    Help(&'static str),
+    Version,
+    List(Input),
+    Why {
+        input: Input,
+        one: LorryCell,
+        other: LorryCell,
+        at: Option<u32>,
+    },
+    Groups {
+        input: Input,
+        at: Option<u32>,
+    },
+    Cell {
+        number: u16,
+        /// The number of a mounting, whether or not there is such a one.
+        mounting: Option<u8>,
+    },
+}
+
+/// The words of a command line, options apart from the rest.
+#[derive(Default)]
+struct Words {
+    plain: Vec<OsString>,
+    at: Option<OsString>,
+    mounting: Option<OsString>,
+    json: bool,
+    help: bool,
+    version: bool,
+}
+
+pub fn parse(words: impl Iterator<Item = OsString>) -> Result<Request, Trouble> {
+    let mut words = sorted(words)?;
+    let json = words.json;
+    let question = if words.version {
+        Question::Version
+    } else if words.plain.is_empty() {
+        if !words.help {
+            return Err(wrong("which command? list, why, groups, cell or help"));
+        }
+        Question::Help(help::ALL)
+    } else {
+        let command = words.plain.remove(0);
+        question(&command, words)?
+    };
+    Ok(Request { question, json })
+}
+
+/// What is asked by a command and the words that follow it.
+fn question(command: &OsStr, mut words: Words) -> Result<Question, Trouble> {
+    let Some((name, text)) = help::of(command) else {
+        return Err(wrong(&format!(
+            "there is no command {}",
+            command.to_string_lossy()
+        )));
+    };
+    if words.help {
+        return Ok(Question::Help(text));
+    }
+    takes(name, "--at", words.at.is_some(), &["why", "groups"])?;
+    takes(name, "--mounting", words.mounting.is_some(), &["cell"])?;
+    takes(
+        name,
+        "--json",
+        words.json,
+        &["list", "why", "groups", "cell"],
+    )?;
+    let plain = &mut words.plain;
+    match name {
+        "list" => Ok(Question::List(only_input(name, plain)?)),
+        "groups" => Ok(Question::Groups {
+            input: only_input(name, plain)?,
+            at: words.at.map(tick).transpose()?,
+        }),
+        "why" => {
+            let (Some(other), Some(one)) = (plain.pop(), plain.pop()) else {
+                return Err(wrong("why wants two cells: kerb why FILE ONE OTHER"));
+            };
+            Ok(Question::Why {
+                one: LorryCell(cell(&one)?),
+                other: LorryCell(cell(&other)?),
+                input: only_input(name, plain)?,
+                at: words.at.map(tick).transpose()?,
+            })
+        }
+        "cell" => {
+            let [number] = plain.as_slice() else {
+                return Err(wrong("cell wants one number: kerb cell N"));
+            };
+            Ok(Question::Cell {
+                number: cell(number)?,
+                mounting: words.mounting.map(mounting).transpose()?,
+            })
+        }
+        _ => match plain.as_slice() {
+            [] => Ok(Question::Help(help::ALL)),
+            [about] => match help::of(about) {
+                Some((_, text)) => Ok(Question::Help(text)),
+                None => Err(wrong(&format!(
+                    "there is no command {}",
+                    about.to_string_lossy()
+                ))),
+            },
+            _ => Err(wrong("help is about one command: kerb help COMMAND")),
+        },
+    }
+}
+
+/// Parts options from plain words. What follows `--` is plain, and `-` is: it names standard input.
+fn sorted(mut all: impl Iterator<Item = OsString>) -> Result<Words, Trouble> {
+    let mut words = Words::default();
+    while let Some(word) = all.next() {
+        let text = word.to_str().unwrap_or("");
+        if !text.starts_with('-') || text == "-" {
+            words.plain.push(word);
+            continue;
+        }
+        let (name, joined) = match text.split_once('=') {
+            Some((name, value)) => (name, Some(OsString::from(value))),
+            None => (text, None),
+        };
+        match (name, &joined) {
+            ("--", None) => words.plain.extend(all.by_ref()),
+            ("--help" | "-h", None) => words.help = true,
+            ("--version" | "-V", None) => words.version = true,
+            ("--json", None) => words.json = true,
+            ("--at", _) => once(&mut words.at, name, joined.or_else(|| all.next()))?,
+            ("--mounting", _) => once(&mut words.mounting, name, joined.or_else(|| all.next()))?,
+            _ => return Err(wrong(&format!("there is no option {text}"))),
+        }
+    }
+    Ok(words)
+}
+
+/// The value of an option, which has one and stands once.
+fn once(place: &mut Option<OsString>, name: &str, value: Option<OsString>) -> Result<(), Trouble> {
+    let value = value.ok_or_else(|| wrong(&format!("{name} wants a value")))?;
+    match place.replace(value) {
+        None => Ok(()),
+        Some(_) => Err(wrong(&format!("{name} stands twice"))),
+    }
+}
+
+fn takes(command: &str, option: &str, given: bool, by: &[&str]) -> Result<(), Trouble> {
+    if !given || by.contains(&command) {
+        return Ok(());
+    }
+    Err(wrong(&format!("{command} takes no {option}")))
+}
+
+/// The one word that is left, which names the recording; none, or `-`, is standard input.
+fn only_input(command: &str, plain: &mut Vec<OsString>) -> Result<Input, Trouble> {
+    let word = plain.pop();
+    if !plain.is_empty() {
+        return Err(wrong(&format!("{command} takes one file")));
+    }
+    Ok(match word {
+        Some(name) if name != "-" => Input::File(name.into()),
+        _ => Input::Standard,
+    })
+}
+
+/// A number of digits alone; none where it passes 64 bits, which is more than anything here takes.
+fn number(word: &OsStr, what: &str) -> Result<Option<u64>, Trouble> {
+    let text = word.to_str().unwrap_or("");
+    if text.is_empty() || !text.bytes().all(|byte| byte.is_ascii_digit()) {
+        let word = word.to_string_lossy();
+        return Err(wrong(&format!(
+            "{word} is not a number: {what} is wanted here"
+        )));
+    }
+    Ok(text.parse().ok())
+}
+
+/// A number for a cell. What a cell is, the library judges: a number beyond 16 bits is put to it as the largest that it takes.
+fn cell(word: &OsStr) -> Result<u16, Trouble> {
+    let number = number(word, "a cell")?.unwrap_or(u64::MAX);
+    Ok(u16::try_from(number).unwrap_or(u16::MAX))
+}
+
+fn tick(word: OsString) -> Result<u32, Trouble> {
+    let number = number(&word, "a tick")?.unwrap_or(u64::MAX);
+    u32::try_from(number).map_err(|_| {
+        let (word, most) = (word.to_string_lossy(), u32::MAX);
+        wrong(&format!("{word} is no tick: ticks go from 0 to {most}"))
+    })
+}
+
+/// 1 or plain, 2 or mirrored. Other numbers are the library's to refuse.
+fn mounting(word: OsString) -> Result<u8, Trouble> {
+    match word.to_str() {
+        Some("plain") => return Ok(Mounting::Plain.number()),
+        Some("mirrored") => return Ok(Mounting::Mirrored.number()),
+        _ => (),
+    }
+    let number = number(&word, "a mounting")?.unwrap_or(u64::MAX);
+    Ok(u8::try_from(number).unwrap_or(u8::MAX))
+}
+
+fn wrong(what: &str) -> Trouble {
+    Trouble::Use(format!("{what}\nkerb help says how it is used"))
+}

@@ -1,0 +1,175 @@
+//! A recording played into a book, and what is asked of it. Every answer is the library's.
+
+use crate::trouble::{About, Refused};
+use kerb::{Book, LorryCell, Record, Refusal, Settings, RECORD_BYTES};
+
+pub struct Recording {
+    book: Book,
+    pub settings: Settings,
+    played: Vec<Record>,
+}
+
+/// A moment of the book: its time, and the open slide.
+#[derive(Clone, Copy)]
+pub struct Moment {
+    pub tick: u32,
+    pub slide: u64,
+}
+
+/// A link of a chain, and when it was seen last.
+pub struct Seen {
+    pub one: LorryCell,
+    pub other: LorryCell,
+    pub last: Moment,
+}
+
+/// Why two cells are joined.
+pub struct Why {
+    pub chain: Vec<LorryCell>,
+    /// The links between neighbours of the chain.
+    pub links: Vec<Seen>,
+    /// L, and its first and last tick.
+    pub newest: u64,
+    pub newest_ticks: Option<(u32, u32)>,
+    pub hold: u8,
+    /// The last tick at which the two are still joined if nothing more is seen; none where ticks end before they part.
+    pub until: Option<u32>,
+}
+
+/// A group of two cells or more.
+pub struct Group {
+    pub cells: Vec<LorryCell>,
+    pub hold: u8,
+    /// The last tick at which all of them are still together if nothing more is seen; none as above.
+    pub until: Option<u32>,
+}
+
+pub struct Groups {
+    pub groups: Vec<Group>,
+    pub links: u32,
+}
+
+impl Recording {
+    /// The file played into a book of its settings. With a tick, only the records up to the first that is later are played, and
+    /// then the time moves to the tick.
+    pub fn played(file: &[u8], at: Option<u32>) -> Result<Recording, Refused> {
+        let in_file = |refusal| Refused {
+            refusal,
+            about: About::File,
+        };
+        let (settings, m) = kerb::read(file).map_err(in_file)?;
+        let mut book = Book::open(settings).map_err(in_file)?;
+        let records: Result<Vec<Record>, Refusal> = (0..m).map(|i| kerb::unpack(file, i)).collect();
+        let mut played = records.map_err(in_file)?;
+
+        let at_record = |stopped: kerb::Stopped| Refused {
+            refusal: stopped.refusal,
+            about: About::Record(stopped.taken),
+        };
+        if let Some(at) = at {
+            let taken = played.iter().take_while(|record| record.tick <= at);
+            played.truncate(taken.count());
+            let part = file_of(settings, &file[..RECORD_BYTES * played.len()]);
+            book.play(&part.map_err(in_file)?).map_err(at_record)?;
+            let about = About::Tick(at);
+            book.clock(at)
+                .map_err(|refusal| Refused { refusal, about })?;
+        } else {
+            book.play(file).map_err(at_record)?;
+        }
+        Ok(Recording {
+            book,
+            settings,
+            played,
+        })
+    }
+
+    /// Now, for the book.
+    pub fn now(&self) -> Moment {
+        Moment {
+            tick: self.book.time(),
+            slide: self.book.open_slide(),
+        }
+    }
+
+    /// Why two cells are joined; none where nothing in the window ties them.
+    pub fn why(&self, one: LorryCell, other: LorryCell) -> Result<Option<Why>, Refused> {
+        let (answer, chain) = match self.book.why(one, other) {
+            Err(Refusal::NoTrail) => return Ok(None),
+            Err(refusal) => {
+                let about = About::CommandLine;
+                return Err(Refused { refusal, about });
+            }
+            Ok(answer) => answer,
+        };
+        let neighbours = chain.windows(2);
+        Ok(Some(Why {
+            links: neighbours
+                .map(|two| self.seen(two[0], two[1], answer.newest))
+                .collect(),
+            chain,
+            newest: answer.newest,
+            newest_ticks: self.book.slide_ticks(answer.newest),
+            hold: answer.hold,
+            until: self.last_tick_after(answer.hold),
+        }))
+    }
+
+    pub fn groups(&self) -> Result<Groups, Refused> {
+        let about = About::File;
+        let found = self
+            .book
+            .groups()
+            .map_err(|refusal| Refused { refusal, about })?;
+        let cells_from = |first| {
+            let all = (0..kerb::CELLS as u16).map(LorryCell);
+            all.filter(|&cell| found.of(cell).is_some_and(|group| group.first == first))
+                .collect()
+        };
+        let groups = found.iter().map(|group| Group {
+            cells: cells_from(group.first),
+            hold: group.hold,
+            until: self.last_tick_after(group.hold),
+        });
+        Ok(Groups {
+            groups: groups.collect(),
+            links: found.links(),
+        })
+    }
+
+    /// The newest record of a link that a chain from slide `newest` on has, and the slide that it is in.
+    fn seen(&self, one: LorryCell, other: LorryCell, newest: u64) -> Seen {
+        let mounting = self.settings.mounting;
+        let of_both = |record: &&Record| {
+            let cells = (
+                record.one.to_lorry(mounting),
+                record.other.to_lorry(mounting),
+            );
+            cells == (one, other) || cells == (other, one)
+        };
+        let record = self.played.iter().rev().find(of_both);
+        let tick = record.expect("each link of a chain was played").tick;
+        let has = |slide: &u64| {
+            self.book
+                .slide_ticks(*slide)
+                .is_some_and(|(first, last)| (first..=last).contains(&tick))
+        };
+        let slide = (newest..=self.book.open_slide()).find(has);
+        let slide = slide.expect("each link of a chain is in a slide from L to the open one");
+        let last = Moment { tick, slide };
+        Seen { one, other, last }
+    }
+
+    /// The last tick of the slide that is open after so many closings.
+    fn last_tick_after(&self, closings: u8) -> Option<u32> {
+        let slide = self.book.open_slide() + u64::from(closings);
+        self.book.slide_ticks(slide).map(|(_, last)| last)
+    }
+}
+
+/// A link file of these records.
+fn file_of(settings: Settings, records: &[u8]) -> Result<Vec<u8>, Refusal> {
+    let mut file = vec![0; records.len() + kerb::ENDING_BYTES];
+    kerb::write(settings, records, &mut file)?;
+    Ok(file)
+}

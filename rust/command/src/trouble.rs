@@ -1,0 +1,96 @@
+//! What can stand in the way of an answer, in words, and the status that it ends with.
+
+use crate::json::Json;
+use kerb::Refusal;
+use std::fmt;
+use std::io::{self, Write};
+
+/// What a refusal is about.
+#[derive(Clone, Copy, Debug)]
+pub enum About {
+    File,
+    /// A record of the file, by its place from 0.
+    Record(u32),
+    /// The tick of `--at`.
+    Tick(u32),
+    /// A cell or a mounting of the command line.
+    CommandLine,
+}
+
+/// A number that the library gave, and what for.
+#[derive(Clone, Copy, Debug)]
+pub struct Refused {
+    pub refusal: Refusal,
+    pub about: About,
+}
+
+impl Refused {
+    pub fn json(&self) -> Json {
+        let mut fields = vec![("refused", Json::from(self.refusal.number()))];
+        match self.about {
+            About::Record(place) => fields.push(("record", Json::from(place))),
+            About::Tick(tick) => fields.push(("tick", Json::from(tick))),
+            About::File | About::CommandLine => (),
+        }
+        fields.push(("meaning", Json::Text(self.refusal.meaning())));
+        Json::Object(fields)
+    }
+}
+
+impl fmt::Display for Refused {
+    fn fmt(&self, f: &mut fmt::Formatter) -> fmt::Result {
+        write!(f, "refused {} ", self.refusal.number())?;
+        match self.about {
+            About::File => write!(f, "in the file")?,
+            About::Record(place) => write!(f, "at record {place}")?,
+            About::Tick(tick) => write!(f, "at tick {tick}")?,
+            About::CommandLine => write!(f, "on the command line")?,
+        }
+        write!(f, ": {}", self.refusal.meaning())
+    }
+}
+
+/// Why there is no answer.
+#[derive(Debug)]
+pub enum Trouble {
+    /// The command line is not one that the command takes.
+    Use(String),
+    /// The file, by its name, cannot be read.
+    Unread(String, io::Error),
+    /// Standard output cannot be written.
+    Unwritten(io::Error),
+    /// The library refused; what goes to standard output all the same.
+    Refused(Refused, String),
+}
+
+impl Trouble {
+    /// What stands on standard output nevertheless: of a refusal the listing's line, or its JSON.
+    pub fn on_standard_output(&self) -> &str {
+        match self {
+            Trouble::Refused(_, text) => text,
+            _ => "",
+        }
+    }
+
+    /// Says it on standard error, and gives the status. Where standard error cannot be written either, the status is all there is.
+    pub fn complain(&self) -> u8 {
+        let _ = writeln!(io::stderr(), "{self}");
+        match self {
+            Trouble::Refused(..) => 2,
+            _ => 3,
+        }
+    }
+}
+
+impl fmt::Display for Trouble {
+    fn fmt(&self, f: &mut fmt::Formatter) -> fmt::Result {
+        match self {
+            Trouble::Use(what) => write!(f, "kerb: {what}"),
+            Trouble::Unread(name, error) => write!(f, "kerb: {name} cannot be read: {error}"),
+            Trouble::Unwritten(error) => {
+                write!(f, "kerb: standard output cannot be written: {error}")
+            }
+            Trouble::Refused(refused, _) => write!(f, "{refused}"),
+        }
+    }
+}

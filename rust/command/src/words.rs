@@ -1,0 +1,123 @@
+//! The answers in words.
+
+use crate::recording::{Groups, Moment, Recording, Why};
+use kerb::{LorryCell, Mounting, UnitCell};
+use std::io::Write;
+
+pub fn version() -> String {
+    let (command, library) = (env!("CARGO_PKG_VERSION"), kerb::calls::version());
+    format!("kerb {command}, with version {library} of the library\n")
+}
+
+/// Somebody who forgot the file name would otherwise wait for ever.
+pub fn reading_a_terminal() {
+    let _ = writeln!(
+        std::io::stderr(),
+        "kerb: reading a recording from the terminal; kerb help says how to name a file"
+    );
+}
+
+pub fn why(
+    recording: &Recording,
+    (one, other): (LorryCell, LorryCell),
+    why: Option<&Why>,
+) -> String {
+    let now = moment(recording.now());
+    let Some(why) = why else {
+        let n = recording.settings.n;
+        let (one, other) = (one.0, other.0);
+        return format!("Cells {one} and {other} are not joined {now}: nothing in the window, the last {n} slides, ties them.\n");
+    };
+    if one == other {
+        return format!("Cell {} is joined with itself, always.\n", one.0);
+    }
+    let mut text = format!(
+        "Cells {} and {} are joined {now}, by this chain:\n\n",
+        one.0, other.0
+    );
+    for link in &why.links {
+        text += &format!("  {}\n", place(link.one));
+        text += &format!(
+            "      linked with cell {}, last {}\n",
+            link.other.0,
+            moment(link.last)
+        );
+    }
+    text += &format!("  {}\n\n", place(other));
+    let ticks = why.newest_ticks.map_or(String::new(), |(first, last)| {
+        format!(", ticks {first} to {last}")
+    });
+    text += &format!("L is slide {}{ticks}: links from it on tie the two, and links from the next slide on do not.\n", why.newest);
+    text += &format!(
+        "Hold {}: if nothing more is seen, they stay joined {}.\n",
+        why.hold,
+        until(why.until)
+    );
+    text
+}
+
+pub fn groups(recording: &Recording, groups: &Groups) -> String {
+    let counted =
+        |number: usize, of: &str| format!("{number} {of}{}", if number == 1 { "" } else { "s" });
+    let (found, links) = (
+        counted(groups.groups.len(), "group"),
+        counted(groups.links as usize, "link"),
+    );
+    let (now, n) = (moment(recording.now()), recording.settings.n);
+    let mut text = format!("{found} {now}; {links} in the window, the last {n} slides.\n");
+    for group in &groups.groups {
+        let size = counted(group.cells.len(), "cell");
+        text += &format!(
+            "\n{size}, least hold {}: if nothing more is seen, all stay together {}\n",
+            group.hold,
+            until(group.until)
+        );
+        let cells: Vec<String> = group.cells.iter().map(|cell| cell.0.to_string()).collect();
+        text += &format!("  {}\n", cells.join(" "));
+    }
+    text
+}
+
+pub fn cell(number: u16, mountings: &[Mounting]) -> String {
+    let mut text = format!("{}\n", place(LorryCell(number)));
+    for &mounting in mountings {
+        let to_lorry = UnitCell(number).to_lorry(mounting);
+        let to_unit = LorryCell(number).to_unit(mounting);
+        let (name, of_mounting) = (name(mounting), mounting.number());
+        text += &format!(
+            "mounting {of_mounting}, {name}: the unit's {number} is the lorry's {} (ring {}, sector {}); the lorry's {number} is the unit's {}\n",
+            to_lorry.0,
+            to_lorry.ring(),
+            to_lorry.sector(),
+            to_unit.0
+        );
+    }
+    text
+}
+
+pub fn name(mounting: Mounting) -> &'static str {
+    match mounting {
+        Mounting::Plain => "plain",
+        Mounting::Mirrored => "mirrored",
+    }
+}
+
+fn place(cell: LorryCell) -> String {
+    format!(
+        "cell {}: ring {}, sector {}",
+        cell.0,
+        cell.ring(),
+        cell.sector()
+    )
+}
+
+fn moment(at: Moment) -> String {
+    format!("at tick {}, in slide {}", at.tick, at.slide)
+}
+
+fn until(tick: Option<u32>) -> String {
+    match tick {
+        Some(tick) => format!("up to and including tick {tick}"),
+        None => "for as long as there are ticks".to_string(),
+    }
+}

@@ -1,0 +1,329 @@
+//! Bad input of every kind ends with a clear message and the right status, and an answer that cannot be written is no answer.
+
+mod common;
+
+use common::{command, kerb, kerb_fed, ran, recording, words, Ran};
+use kerb::{Mounting, Settings};
+use std::fs::File;
+use std::io::Write;
+use std::process::{Command, Stdio};
+
+const LIFT: &str = "samples/tail_lift_and_walker.kerb";
+
+/// The status, nothing on standard output, and a message with these words.
+fn complains(ran: &Ran, status: i32, words: &str) {
+    assert_eq!(ran.status, status, "{ran:?}");
+    assert_eq!(ran.out, "", "{ran:?}");
+    assert!(ran.err.contains(words), "{words}: {ran:?}");
+}
+
+#[test]
+fn wrong_use_is_status_3() {
+    for (args, words) in [
+        (&[][..], "which command?"),
+        (&["frob"], "there is no command frob"),
+        (&["help", "frob"], "there is no command frob"),
+        (&["help", "why", "list"], "help is about one command"),
+        (&["list", LIFT, LIFT], "list takes one file"),
+        (&["why", LIFT, LIFT, "1", "2"], "why takes one file"),
+        (&["list", LIFT, "--frob"], "there is no option --frob"),
+        (
+            &["list", LIFT, "--json=yes"],
+            "there is no option --json=yes",
+        ),
+        (&["list", LIFT, "--at", "5"], "list takes no --at"),
+        (
+            &["groups", LIFT, "--mounting", "1"],
+            "groups takes no --mounting",
+        ),
+        (&["help", "--json"], "help takes no --json"),
+        (&["groups", LIFT, "--at"], "--at wants a value"),
+        (
+            &["groups", LIFT, "--at", "5", "--at=6"],
+            "--at stands twice",
+        ),
+        (&["why", LIFT], "why wants two cells"),
+        (&["cell"], "cell wants one number"),
+        (&["cell", "1", "2"], "cell wants one number"),
+    ] {
+        complains(&kerb(args), 3, words);
+    }
+}
+
+#[test]
+fn words_for_numbers_are_status_3() {
+    for word in ["five", "", "5x", "0x10", "+5", "5.0", "5 ", "1,023"] {
+        complains(
+            &kerb(&["why", LIFT, word, "6"]),
+            3,
+            "is not a number: a cell is wanted here",
+        );
+        complains(
+            &kerb(&["why", LIFT, "6", word]),
+            3,
+            "is not a number: a cell is wanted here",
+        );
+        complains(
+            &kerb(&["cell", word]),
+            3,
+            "is not a number: a cell is wanted here",
+        );
+        complains(
+            &kerb(&["groups", LIFT, "--at", word]),
+            3,
+            "is not a number: a tick is wanted here",
+        );
+        complains(
+            &kerb(&["cell", "5", "--mounting", word]),
+            3,
+            "is not a number: a mounting is wanted here",
+        );
+    }
+    complains(&kerb(&["cell", "-5"]), 3, "there is no option -5");
+    complains(&kerb(&["cell", "--", "-5"]), 3, "-5 is not a number");
+}
+
+#[test]
+fn numbers_out_of_range_are_refused() {
+    for cell in ["1024", "65535", "65536", "70000", "99999999999999999999999"] {
+        let words = "refused 3 on the command line: a cell is 1024 or more";
+        complains(&kerb(&["why", LIFT, cell, "6"]), 2, words);
+        complains(&kerb(&["why", LIFT, "6", cell]), 2, words);
+        complains(&kerb(&["cell", cell]), 2, words);
+    }
+    for mounting in ["0", "3", "256", "258", "99999999999999999999999"] {
+        let words = "refused 2 on the command line: n, B or the mounting is outside its values";
+        complains(&kerb(&["cell", "5", "--mounting", mounting]), 2, words);
+    }
+    for tick in ["4294967296", "99999999999999999999999"] {
+        complains(
+            &kerb(&["groups", LIFT, "--at", tick]),
+            3,
+            "ticks go from 0 to 4294967295",
+        );
+    }
+    // a tick before the first one
+    let words = "refused 4 at tick 999: the tick is before the book's time";
+    complains(
+        &kerb(&["groups", "samples/mirrored.kerb", "--at", "999"]),
+        2,
+        words,
+    );
+}
+
+#[test]
+fn what_cannot_be_read_is_status_3() {
+    for command in ["list", "groups"] {
+        complains(
+            &kerb(&[command, "no/such.kerb"]),
+            3,
+            "no/such.kerb cannot be read: No such file",
+        );
+        complains(
+            &kerb(&[command, "samples"]),
+            3,
+            "samples cannot be read: Is a directory",
+        );
+        complains(
+            &kerb(&[command, "samples/README.md/x"]),
+            3,
+            "cannot be read: Not a directory",
+        );
+        complains(&kerb(&[command, ""]), 3, " cannot be read: No such file");
+    }
+    complains(
+        &kerb(&["why", "no/such.kerb", "1", "2"]),
+        3,
+        "no/such.kerb cannot be read",
+    );
+
+    let folder = File::open(common::root()).expect("a folder");
+    let output = command(&["list"])
+        .stdin(folder)
+        .output()
+        .expect("it starts");
+    complains(
+        &ran(output),
+        3,
+        "standard input cannot be read: Is a directory",
+    );
+    complains(
+        &through_a_shell("<&-", &["list"]),
+        3,
+        "standard input cannot be read: it is closed",
+    );
+}
+
+/// Every refusal of the file or of a record, with its number and its meaning; of `list` the line of kerblist too.
+#[test]
+fn refused_files_are_status_2_with_the_number_in_words() {
+    let settings = Settings {
+        t0: 10,
+        b: 10,
+        n: 3,
+        mounting: Mounting::Plain,
+    };
+    let good = recording(settings, &[(10, 1, 2), (20, 2, 3)]);
+    let changed = |place: usize, byte: u8| {
+        let mut file = good.clone();
+        file[place] = byte;
+        file
+    };
+    let full: Vec<(u32, u16, u16)> = (0..257).map(|_| (10, 1, 2)).collect();
+    let short = &good[..good.len() - 1];
+    for (file, line, words) in [
+        (
+            short.to_vec(),
+            "refused 9 file",
+            "refused 9 in the file: the length is that of no link file",
+        ),
+        (Vec::new(), "refused 9 file", "refused 9 in the file: "),
+        (
+            b"not a link file, but text of 64 bytes, which is a good length...".to_vec(),
+            "refused 10 file",
+            "refused 10 in the file: the last four bytes of the file are not KERB",
+        ),
+        (
+            changed(28, 7),
+            "refused 11 file",
+            "refused 11 in the file: the file's offset and count do not agree with its length",
+        ),
+        (
+            changed(26, 1),
+            "refused 12 file",
+            "refused 12 in the file: a pad byte of the file is not zero",
+        ),
+        (
+            changed(24, 17),
+            "refused 2 file",
+            "refused 2 in the file: n, B or the mounting is outside its values",
+        ),
+        (
+            changed(13, 4),
+            "refused 3 1",
+            "refused 3 at record 1: a cell is 1024 or more",
+        ),
+        (
+            changed(8, 9),
+            "refused 4 1",
+            "refused 4 at record 1: the tick is before the book's time",
+        ),
+        (
+            recording(settings, &full),
+            "refused 5 256",
+            "refused 5 at record 256: the link's slide already holds 256 links",
+        ),
+    ] {
+        let ran = kerb_fed(&["list"], &file);
+        assert_eq!((ran.status, ran.out), (2, format!("{line}\n")));
+        assert!(ran.err.starts_with(words), "{words}: {}", ran.err);
+        complains(&kerb_fed(&["groups"], &file), 2, words);
+        complains(&kerb_fed(&["why", "1", "2"], &file), 2, words);
+
+        let ran = kerb_fed(&["groups", "--json"], &file);
+        let number = line.split(' ').nth(1).expect("the number");
+        assert_eq!(ran.status, 2);
+        assert!(
+            ran.out.starts_with(&format!("{{\"refused\":{number},")),
+            "{}",
+            ran.out
+        );
+    }
+}
+
+/// A gigabyte of zeros is refused as too long, once as many bytes are read as tell it.
+#[test]
+fn a_gigabyte_of_zeros_is_refused() {
+    let mut command = command(&["list"]);
+    command
+        .stdin(Stdio::piped())
+        .stdout(Stdio::piped())
+        .stderr(Stdio::piped());
+    let mut child = command.spawn().expect("it starts");
+    let mut input = child.stdin.take().expect("its input");
+    let megabyte = vec![0; 1 << 20];
+    let written = (0..1024)
+        .take_while(|_| input.write_all(&megabyte).is_ok())
+        .count();
+    drop(input);
+    let ran = ran(child.wait_with_output().expect("its output"));
+    assert!(written < 1024, "it read the whole gigabyte");
+    assert_eq!((ran.status, ran.out.as_str()), (2, "refused 9 file\n"));
+    assert!(
+        ran.err.contains("the length is that of no link file"),
+        "{}",
+        ran.err
+    );
+}
+
+/// A full device, a closed standard output, and a reader that has gone.
+#[test]
+fn what_cannot_be_written_is_status_3() {
+    let why = ["why", LIFT, "94", "227"];
+    for args in [
+        &["list", LIFT][..],
+        &why,
+        &["groups", LIFT],
+        &["cell", "5"],
+        &["help"],
+        &["--version"],
+    ] {
+        let full = File::options()
+            .write(true)
+            .open("/dev/full")
+            .expect("/dev/full");
+        let output = command(args).stdout(full).output().expect("it starts");
+        complains(
+            &ran(output),
+            3,
+            "standard output cannot be written: No space left on device",
+        );
+        complains(
+            &through_a_shell(">&-", args),
+            3,
+            "standard output cannot be written: it is closed",
+        );
+    }
+
+    let mut command = command(&["list"]);
+    command
+        .stdin(Stdio::piped())
+        .stdout(Stdio::piped())
+        .stderr(Stdio::piped());
+    let mut child = command.spawn().expect("it starts");
+    drop(child.stdout.take());
+    let file = std::fs::read(common::root().join(LIFT)).expect("the sample");
+    child
+        .stdin
+        .take()
+        .expect("its input")
+        .write_all(&file)
+        .expect("it reads");
+    let ran = ran(child.wait_with_output().expect("its messages"));
+    complains(&ran, 3, "standard output cannot be written: Broken pipe");
+}
+
+/// Where standard error cannot be written either, the status is left.
+#[test]
+fn the_status_stands_without_standard_error() {
+    for (args, status) in [(&["frob"][..], 3), (&["list", "samples/cut_short.kerb"], 2)] {
+        let full = File::options()
+            .write(true)
+            .open("/dev/full")
+            .expect("/dev/full");
+        let output = command(args).stderr(full).output().expect("it starts");
+        assert_eq!(output.status.code(), Some(status));
+        assert_eq!(through_a_shell("2>&-", args).status, status);
+    }
+}
+
+/// Runs it from a shell, for a redirection that only a shell can make.
+fn through_a_shell(redirection: &str, args: &[&str]) -> Ran {
+    let mut shell = Command::new("sh");
+    shell
+        .arg("-c")
+        .arg(format!("exec \"$@\" {redirection}"))
+        .arg("sh");
+    shell.args(words()).args(args).current_dir(common::root());
+    ran(shell.output().expect("it starts"))
+}
