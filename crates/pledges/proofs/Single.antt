@@ -10,7 +10,7 @@ use Rattle.book.specs.Calls.{Answer}
 use Rattle.buckets.proofs.Listing.{one-listing}
 use Rattle.forest_cross.proofs.Joined.{one-answer}
 use Rattle.pledges.specs.Pledges.{_▸_}
-use Rattle.pledges.specs.Single.{freshenFn, moveToFn, fieldsOpeningFn, fieldsLinkFn, fieldsClockFn, gatherFn, bestTrailFn, chainOverFn, playOverFn, playFileFn, groupsOverFn, putWordFn, putFieldsFn, putLineFn, listFn, uniteFn, listEntriesFn, joinedAcrossFn, Single}
+use Rattle.pledges.specs.Single.{freshenFn, moveToFn, fieldsOpeningFn, fieldsLinkFn, fieldsLinkInOrderFn, fieldsClockFn, gatherFn, bestTrailFn, chainOverFn, playOverFn, playFileFn, groupsOverFn, putWordFn, putFieldsFn, putLineFn, listFn, uniteFn, listEntriesFn, joinedAcrossFn, Single}
 use Rattle.pledges.proofs.Exported.{single-claim}
 
 -- two that equal a third
@@ -34,6 +34,11 @@ single =
           record { clock = b .clock; fitting = b .fitting; number = o .number } ▸ tt ▸ tt ▸ b .counts ▸ b .«forward_parent» ▸ b .«forward_size»
           ▸ b .«backward_parent» ▸ b .«backward_size» ▸ b .«backward_label» ▸ equal (p .logged) (q .logged) i ▸ tt ▸ tt;
       book-fields-link = single-claim fieldsLinkFn (λ w κs a g r e. refl) λ κs a r s p q i.
+          let o : Answer = equal (p .answered) (q .answered) i in
+          let b : Book = o .book in
+          record { clock = b .clock; fitting = b .fitting; number = o .number } ▸ tt ▸ tt ▸ b .counts ▸ b .«forward_parent» ▸ b .«forward_size»
+          ▸ b .«backward_parent» ▸ b .«backward_size» ▸ b .«backward_label» ▸ equal (p .logged) (q .logged) i ▸ tt ▸ tt ▸ tt ▸ tt;
+      book-fields-link-in-order = single-claim fieldsLinkInOrderFn (λ w κs a g r e. refl) λ κs a r s p q i.
           let o : Answer = equal (p .answered) (q .answered) i in
           let b : Book = o .book in
           record { clock = b .clock; fitting = b .fitting; number = o .number } ▸ tt ▸ tt ▸ b .counts ▸ b .«forward_parent» ▸ b .«forward_size»

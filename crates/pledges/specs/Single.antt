@@ -5,6 +5,7 @@ use Rattle.book_time.proofs.freshen
 use Rattle.book_time.proofs.move_to
 use Rattle.book.proofs.fields.opening as fields_opening
 use Rattle.book.proofs.fields.link as fields_link
+use Rattle.book.proofs.fields.link_in_order as fields_link_in_order
 use Rattle.book.proofs.fields.clock as fields_clock
 use Rattle.window.proofs.gather
 use Rattle.chain_fewest.proofs.best_trail
@@ -32,6 +33,9 @@ fieldsOpeningFn = record { ended = fields_opening.ended; clauses = λ M. fields_
 
 abbrev pub fieldsLinkFn : Exported
 fieldsLinkFn = record { ended = fields_link.ended; clauses = λ M. fields_link.clauses; routine = fields_link.Symbol.routine; met = λ M. fields_link.Met.met }
+
+abbrev pub fieldsLinkInOrderFn : Exported
+fieldsLinkInOrderFn = record { ended = fields_link_in_order.ended; clauses = λ M. fields_link_in_order.clauses; routine = fields_link_in_order.Symbol.routine; met = λ M. fields_link_in_order.Met.met }
 
 abbrev pub fieldsClockFn : Exported
 fieldsClockFn = record { ended = fields_clock.ended; clauses = λ M. fields_clock.clauses; routine = fields_clock.Symbol.routine; met = λ M. fields_clock.Met.met }
@@ -80,6 +84,7 @@ pub record Single : Type 2 where
   pub book-time-move-to : SingleResult moveToFn
   pub book-fields-opening : SingleResult fieldsOpeningFn
   pub book-fields-link : SingleResult fieldsLinkFn
+  pub book-fields-link-in-order : SingleResult fieldsLinkInOrderFn
   pub book-fields-clock : SingleResult fieldsClockFn
   pub window-gather : SingleResult gatherFn
   pub chain-fewest-best-trail : SingleResult bestTrailFn

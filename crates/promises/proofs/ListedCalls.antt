@@ -16,7 +16,7 @@ use Rattle.file_play.specs.Play.{Play, recordGives, playByNumber, playFrom, fil
 use Rattle.promises.specs.History.{History, numberIn, added, addedByNumber}
 use Rattle.promises.specs.Implementation.{ours, State, stateOf, gives, after}
 use Rattle.promises.specs.Listed.{recordCall, recordCalls, Refusal, refusalBy, firstRefusal, playedState, Plays}
-use Rattle.promises.proofs.Agrees.{Agrees}
+use Rattle.promises.specs.Agrees.{Agrees}
 use Rattle.promises.proofs.NumbersAgree.{number-agrees}
 use Rattle.promises.proofs.Keeps.{step}
 use Rattle.promises.proofs.Refused.{refused}

@@ -17,7 +17,7 @@ use Rattle.promises.specs.History as history
 use Rattle.promises.specs.History.{Stored, History, openSlideIn, ofSlides, linksOf, windowAt}
 use Rattle.promises.specs.Implementation.{State}
 use Rattle.promises.specs.Listed.{linkCountIn}
-use Rattle.promises.proofs.Agrees.{Agrees}
+use Rattle.promises.specs.Agrees.{Agrees}
 use Rattle.promises.proofs.Lists.{same-test, fails, none-later, same-slides}
 use Rattle.promises.proofs.Window.{links-of-age}
 

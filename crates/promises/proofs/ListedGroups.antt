@@ -21,7 +21,7 @@ use Rattle.listing.specs.Lines.{groupLine, linesOf, groupLines}
 use Rattle.promises.specs.History.{History}
 use Rattle.promises.specs.Implementation.{State}
 use Rattle.promises.specs.Listed.{groupIn, holdWithin, holdIn, leastHoldIn, groupsIn, GroupsTold, groupLineIn}
-use Rattle.promises.proofs.Agrees.{Agrees}
+use Rattle.promises.specs.Agrees.{Agrees}
 use Rattle.promises.proofs.Closings.{closed, closed-now}
 use Rattle.promises.proofs.InOrder.{agrees-in-order}
 use Rattle.promises.proofs.Lists.{same-test}

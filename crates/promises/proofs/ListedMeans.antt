@@ -25,7 +25,7 @@ use Rattle.window_groups.proofs.LeastHold.{hold-most}
 use Rattle.promises.specs.History.{History, windowOf}
 use Rattle.promises.specs.Implementation.{ours, State, givesChain}
 use Rattle.promises.specs.Listed.{groupIn, holdWithin, holdIn, leastHoldIn, Rising, none, next, ChainHold, PairOf, GroupMeans}
-use Rattle.promises.proofs.Agrees.{Agrees}
+use Rattle.promises.specs.Agrees.{Agrees}
 use Rattle.promises.proofs.ChainIs.{answers}
 use Rattle.promises.proofs.Closings.{closed}
 use Rattle.promises.proofs.Lists.{same-test}

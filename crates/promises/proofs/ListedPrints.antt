@@ -29,7 +29,7 @@ use Rattle.listing.proofs.Stages.{reading-refused, Opened, opening-refused, Pla
 use Rattle.promises.specs.History.{opening, Call, History, ofSlides, begun, firstByNumber, oneMore, historyFrom, historyOf}
 use Rattle.promises.specs.Implementation.{State, stateOf, gives, after}
 use Rattle.promises.specs.Listed.{recordCalls, linkCalls, fileCalls, firstRefusal, recordRefusal, groupLineIn, historyText, Printed, emptyText, Prints}
-use Rattle.promises.proofs.Agrees.{Agrees}
+use Rattle.promises.specs.Agrees.{Agrees}
 use Rattle.promises.proofs.NumbersAgree.{opening-gives}
 use Rattle.promises.proofs.Keeps.{keeps}
 use Rattle.promises.proofs.ListedCalls.{played-refusal, played-whole}

@@ -7,9 +7,10 @@ use Rattle.promises.proofs.ChainIs.{chain}
 use Rattle.promises.proofs.FilesRefused.{files-refused}
 use Rattle.promises.proofs.JoinedIs.{joined}
 use Rattle.promises.proofs.Keeps.{keeps}
+use Rattle.promises.proofs.Listed.{listed}
 use Rattle.promises.proofs.NeverOpened.{never-opened}
 use Rattle.promises.proofs.Refused.{refused}
-use Rattle.promises.proofs.Routines.{code-refuses, code-table, code-joined, code-files, code-chain}
+use Rattle.promises.proofs.Routines.{code-refuses, code-table, code-joined, code-files, code-chain, code-listing}
 use Rattle.pledges.proofs.Single.{single}
 use Rattle.promises.proofs.Table.{table}
 
@@ -21,6 +22,8 @@ kept =
       demand-3 = record { chain = chain; code-chain = code-chain };
       table = table;
       code-table = code-table;
+      listing = listed;
+      code-listing = code-listing;
       cases = cases;
       single = single;
       agrees = keeps;

@@ -5,9 +5,11 @@ use Prim.Native.Nat.{ℕ}
 use mathlib.Core.Path.{_≡_, refl, sym, ap, _∙_, subst, subst⁻¹}
 use mathlib.Core.Bool.{Bool, true, false}
 use mathlib.Core.List.{List}
+use native.Mathlib.Omega.{arith}
 use lib.ListN.{length}
 use denote.Ref.{now}
 use Rattle.numbers.specs.Checks.{unless}
+use Rattle.numbers.specs.Front.{atFront}
 use Rattle.book_state.specs.declared.Book.{Book}
 use Rattle.book_state.specs.Order.{inOrder}
 use Rattle.window_groups.specs.declared.Groups.{Groups}
@@ -25,7 +27,7 @@ use Rattle.promises.specs.History.{opening, link, clock, History}
 use Rattle.promises.specs.Implementation.{gives}
 use Rattle.promises.specs.Agrees.{Agrees}
 use Rattle.promises.specs.Demands.{Stopped}
-use Rattle.promises.specs.Routines.{CodeRefuses, LeftByCalls, CodeTable, CodeJoined, CodeFiles, CodeChain}
+use Rattle.promises.specs.Routines.{CodeRefuses, LeftByCalls, CodeTable, CodeJoined, CodeFiles, CodeChain, CodeListed}
 use Rattle.promises.proofs.Refused.{refused}
 use Rattle.promises.proofs.FilesRefused.{read-gives, files-refused}
 use Rattle.promises.proofs.NumbersAgree.{itself, opening-gives, link-gives, clock-gives, joined-gives, number-agrees, asked-agrees}
@@ -33,6 +35,9 @@ use Rattle.promises.proofs.NoEight.{chain-gives}
 use Rattle.promises.proofs.Keeps.{keeps}
 use Rattle.promises.proofs.JoinedIs.{joined-window, joined-steps, joined-few}
 use Rattle.promises.proofs.ChainIs.{answers}
+use Rattle.promises.proofs.ListedCalls.{plays-told}
+use Rattle.promises.proofs.ListedGroups.{groups-told}
+use Rattle.promises.proofs.ListedPrints.{prints-told}
 
 -- ---- a call gives its number
 
@@ -121,3 +126,18 @@ code-files =
 
 pub code-chain : CodeChain
 code-chain = demanded (pledges .kerb-chain) λ κs a h l places are. answers (left-agrees l) _ _ _ places are
+
+list-done : (t : Bool) (text out : List ℕ) → listedIf t text out .answer .number ≡ 0 →
+    (listedIf t text out .answer .length ≡ length text) × (listedIf t text out .output ≡ atFront text out)
+unfolding listedIf
+list-done true text out e = (refl, refl)
+list-done false text out e = absurd (omega arith)
+
+pub code-listing : CodeListed
+unfolding listingOf
+code-listing =
+    record {
+      kerb-play = demanded (pledges .kerb-play) λ κs a h l. plays-told (now (a .1 .1 .0)) (left-agrees l);
+      kerb-groups = demanded (pledges .kerb-groups) λ κs a h l. groups-told (left-agrees l) _ _ _;
+      kerb-list = demanded (pledges .kerb-list) λ κs a e. let done = list-done _ _ _ e in (done .0, done .1, prints-told (now (a .0)));
+    }

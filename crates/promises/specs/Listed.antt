@@ -24,7 +24,7 @@ use Rattle.file_play.specs.Play.{Play, playOf}
 use Rattle.file_play.specs.Record.{packedOf, recordOf}
 use Rattle.window_groups.specs.declared.Groups.{Groups}
 use Rattle.window_groups.specs.Groups.{filter, smallest, leastOver, ofCells}
-use Rattle.window_groups.specs.Call.{groupsByNumber, groupsGiven}
+use Rattle.window_groups.specs.Call.{GroupsOutcome, groupsByNumber, groupsGiven}
 use Rattle.text.specs.Text.{line}
 use Rattle.listing.specs.Lines.{windowWord, linksWord, refusedFile, refusedRecord, groupLine, linesOf}
 use Rattle.listing.specs.Listing.{windowLine, listingText}
@@ -119,10 +119,12 @@ groupsIn h =
 
 -- what the groups call gives: the number is 6 for an output that is too short, and never 1 (RULES 7.2, 7.8); these groups go to the
 -- fronts of the outputs
+abbrev pub groupsOutcomeIn : (history : History) (first size hold : List ℕ) → GroupsOutcome
+groupsOutcomeIn h first size hold =
+    groupsByNumber (firstOf (unless (has cells first) 6 ∷ unless (has cells size) 6 ∷ unless (has cells hold) 6 ∷ [])) (groupsIn h) first size hold
+
 abbrev pub GroupsTold : (state : State) (history : History) → Type 0
-GroupsTold s h =
-    (first size hold : List ℕ) → groupsGiven (s .book) (s .log) first size hold
-    ≡ groupsByNumber (firstOf (unless (has cells first) 6 ∷ unless (has cells size) 6 ∷ unless (has cells hold) 6 ∷ [])) (groupsIn h) first size hold
+GroupsTold s h = (first size hold : List ℕ) → groupsGiven (s .book) (s .log) first size hold ≡ groupsOutcomeIn h first size hold
 
 -- each number is above the one before, the first is `least` or more
 pub data Rising : (least : ℕ) (numbers : List ℕ) → Type 0 where

@@ -11,7 +11,8 @@ use Rattle.pledges.specs.Pledges.{Pledges}
 use Rattle.promises.specs.Implementation.{ours}
 use Rattle.promises.specs.Agrees.{Agrees}
 use Rattle.promises.specs.Demands.{AfterCalls, Table, Refused, FilesRefused, NeverOpened, Joined, Files, Chain}
-use Rattle.promises.specs.Routines.{CodeRefuses, CodeTable, CodeJoined, CodeFiles, CodeChain}
+use Rattle.promises.specs.Listed.{Listed}
+use Rattle.promises.specs.Routines.{CodeRefuses, CodeTable, CodeJoined, CodeFiles, CodeChain, CodeListed}
 use Rattle.promises.specs.Cases.{Cases}
 use Rattle.pledges.specs.Single.{Single}
 
@@ -48,6 +49,9 @@ pub record Kept : Type 2 where
   -- the numbers of the table, by the history
   pub table : Table ours
   pub code-table : CodeTable
+  -- the listing, the groups call and playing, by the history (RULES 8, 6.6)
+  pub listing : Listed
+  pub code-listing : CodeListed
   -- the worked cases P1 to P12 and O1 to O4 (RULES 9)
   pub cases : Cases
   -- two results that a public contract allows are equal: of exported calls in `ends`, of the functions below them here (RULES 10.2)

@@ -20,18 +20,19 @@ use Rattle.book_state.specs.Order.{inOrder}
 use Rattle.book_joined.specs.Joined.{joinedNumber}
 use Rattle.book.specs.Calls.{openingNumber, linkNumber, clockNumber}
 use Rattle.chain.specs.Chain.{chainPlaces, chainNumber}
-use Rattle.window_groups.specs.Call.{groupsNumberIn}
+use Rattle.window_groups.specs.Call.{GroupsOutcome, groupsNumberIn}
 use Rattle.file.specs.Layout.{endingSize, recordCount}
 use Rattle.file.specs.Format.{readNumber, readOf, writeNumber, outputOf}
 use Rattle.file.proofs.Bytes.{AreBytes}
 use Rattle.file.proofs.Files.{FitsFields}
 use Rattle.file_play.specs.Record.{packNumber}
-use Rattle.listing.specs.Listing.{outputPlaces}
+use Rattle.listing.specs.Listing.{listingText, outputPlaces}
 use Rattle.pledges.specs.Exported.{CodeMeets}
 use Rattle.pledges.specs.Calls.{openingCall, linkCall, clockCall, playCall, joinedCall, chainCall, groupsCall, readCall, writeCall, listCall, packCall, unpackCall}
 use Rattle.pledges.specs.Pledges.{with1, with2, with3, with4, with5}
 use Rattle.promises.specs.History.{Call, opening, link, clock, History, numberIn, windowOf}
 use Rattle.promises.specs.Implementation.{ours, State, after}
+use Rattle.promises.specs.Listed.{Plays, groupsOutcomeIn, Prints}
 use Rattle.promises.specs.Demands.{roomIn, HasHistory, Stopped, stepsIn, Answers}
 
 -- with a number that is not 0
@@ -119,3 +120,16 @@ CodeChain =
     CodeMeets chainCall λ κs a r e. with5 a λ book log one other chain. with5 e λ book′ log′ one′ other′ chain′.
     (h : History) → LeftByCalls (now book) (now log) h → has chainPlaces (now chain) ≡ true → areCells one other ≡ true →
     Answers ours (record { book = now book; log = now log }) h (now chain) one other (record { answer = r; chain = now chain′ })
+
+-- playing, the groups and the listing (RULES 6.6, 8), by the history: the listing's text is said of it by `Prints` (Listed)
+pub record CodeListed : Type 2 where
+  pub kerb-play : CodeMeets playCall λ κs a r e. with3 a λ book log file. with3 e λ book′ log′ file′.
+      (h : History) → LeftByCalls (now book) (now log) h →
+      Plays (now file) (record { book = now book; log = now log }) h
+      (record { book = now book′; log = now log′; number = r .number; taken = r .taken })
+  pub kerb-groups : CodeMeets groupsCall λ κs a r e. with5 a λ book log first size hold. with5 e λ book′ log′ first′ size′ hold′.
+      (h : History) → LeftByCalls (now book) (now log) h →
+      _≡_ {A = GroupsOutcome} (record { answer = r; first = now first′; size = now size′; hold = now hold′ })
+      (groupsOutcomeIn h (now first) (now size) (now hold))
+  pub kerb-list : CodeMeets listCall λ κs a r e. with2 a λ file out. with2 e λ file′ out′. r .number ≡ 0 →
+      (r .length ≡ length (listingText (now file))) × (now out′ ≡ atFront (listingText (now file)) (now out)) × Prints (now file)
