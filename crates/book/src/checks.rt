@@ -3,6 +3,7 @@ use book_state::CELLS;
 use settings::Settings;
 use slides::Clock;
 ghost use mathlib.Core.Path.{_≡_};
+ghost use mathlib.Core.Bool.{true};
 ghost use Rattle.book.specs.Calls.{openingNumber, linkNumberIn, clockNumberIn};
 
 pub fn opening_number(s: Settings, log: &[u16]) -> u8
@@ -18,9 +19,8 @@ pub fn opening_number(s: Settings, log: &[u16]) -> u8
     0
 }
 
-// Given whether the book is in order, and how many links it holds in the link's slide.
+// For a book in order, given how many links it holds in the link's slide.
 pub fn link_number(
-    ordered: bool,
     clock: Clock,
     held: u16,
     log: &[u16],
@@ -28,11 +28,8 @@ pub fn link_number(
     one: u16,
     other: u16,
 ) -> u8
-    ensures { λ r. ⌜ r ≡ linkNumberIn ordered clock held (now (log .entry)) tick one other ⌝ }
+    ensures { λ r. ⌜ r ≡ linkNumberIn true clock held (now (log .entry)) tick one other ⌝ }
 {
-    if !ordered {
-        return 1;
-    }
     if log.len() < 16384 {
         return 6;
     }

@@ -7,10 +7,11 @@ use cells::Fitting;
 use forest::PLACES;
 use settings::Settings;
 ghost use mathlib.Core.Path.{_≡_};
+ghost use mathlib.Core.Bool.{true};
 ghost use mathlib.Core.List.{List};
 ghost use Prim.Native.Nat.{ℕ};
 ghost use Rattle.cells.specs.declared.Fitting.{Fitting};
-ghost use Rattle.book_state.specs.Order.{bookOf};
+ghost use Rattle.book_state.specs.Order.{bookOf, inOrderOf};
 ghost use Rattle.book.specs.Calls.{GivesFields, Room, openingOf, linkOf, linkStored, clockOf};
 
 // What a call over lent fields gives: the clock and the fitting after it, and the number of the table.
@@ -21,7 +22,7 @@ pub struct FieldsAnswer {
     pub number: u8,
 }
 
-// A link of two cells of the unit. The time moves first, and only for a link that is taken.
+// A link of two cells of the unit: number 1 is asked first.
 pub fn link(
     clock: slides::Clock,
     fitting: Fitting,
@@ -48,8 +49,50 @@ pub fn link(
         backward_size,
         backward_label,
     );
+    if !ordered {
+        return FieldsAnswer {
+            clock,
+            fitting,
+            number: 1,
+        };
+    }
+    link_in_order(
+        clock,
+        fitting,
+        counts,
+        forward_parent,
+        forward_size,
+        backward_parent,
+        backward_size,
+        backward_label,
+        log,
+        tick,
+        one,
+        other,
+    )
+}
+
+// The same for a book that is known to be in order: number 1 is not asked. The time moves first, and only for a link that is
+// taken.
+pub fn link_in_order(
+    clock: slides::Clock,
+    fitting: Fitting,
+    counts: &mut [u16; 32],
+    forward_parent: &mut [u16; PLACES],
+    forward_size: &mut [u16; PLACES],
+    backward_parent: &mut [u16; PLACES],
+    backward_size: &mut [u16; PLACES],
+    backward_label: &mut [u8; PLACES],
+    log: &mut [u16],
+    tick: u32,
+    one: u16,
+    other: u16,
+) -> FieldsAnswer
+    requires { ⌜ inOrderOf clock fitting (now counts) (now «forward_parent») (now «forward_size») (now «backward_parent») (now «backward_size») (now «backward_label») ≡ true ⌝ }
+    ensures { λ r. ⌜ GivesFields (linkOf (bookOf clock fitting (now (counts .entry)) (now («forward_parent» .entry)) (now («forward_size» .entry)) (now («backward_parent» .entry)) (now («backward_size» .entry)) (now («backward_label» .entry))) (now (log .entry)) tick one other) r (now (counts .exit)) (now («forward_parent» .exit)) (now («forward_size» .exit)) (now («backward_parent» .exit)) (now («backward_size» .exit)) (now («backward_label» .exit)) (now (log .exit)) ⌝ }
+{
     let held = spots::stored(clock, counts, slides::slide(clock, tick));
-    let number = checks::link_number(ordered, clock, held, log, tick, one, other);
+    let number = checks::link_number(clock, held, log, tick, one, other);
     if number != 0 {
         return FieldsAnswer {
             clock,

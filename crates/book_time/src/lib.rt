@@ -1,7 +1,6 @@
 // The step of time: within a chunk nothing else changes; into the next chunk the backward forest is built from the chunk
 // that ends; further, nothing is left.
 use book_state::CELLS;
-use book_state::STEP_LIMIT;
 use book_state::spots;
 use forest::PLACES;
 use slides::Clock;
@@ -10,9 +9,10 @@ ghost use mathlib.Core.List.{map, []};
 ghost use Prim.Native.Nat.{ℕ, _+_, _-_, _*_, _≤_, _<_};
 ghost use lib.ListN.{length};
 ghost use Rattle.cells.specs.declared.Fitting.{Fitting};
-ghost use Rattle.book_state.specs.Arrays.{arraysOf, unitedAll};
+ghost use Rattle.book_state.specs.Arrays.{arraysOf, freshArrays, unitedAll};
 ghost use Rattle.book_state.specs.Log.{Readable, keep, labelled, linksAt, chunkLinks};
 ghost use Rattle.book_state.specs.Order.{bookOf};
+ghost use Rattle.forest_beside.specs.Beside.{Beside};
 ghost use Rattle.book_time.specs.Time.{cleared, Fresh, movedBook};
 
 // Makes both forests fresh: each cell is its own root again.
@@ -89,7 +89,7 @@ fn clear_half(counts: [u16; 32], half: usize) -> [u16; 32]
     kept
 }
 
-// Unites the links of places n - 1 down to 1, each with its place as label; place 0 is never scanned (RULES 3.8).
+// Unites the links of places n - 1 down to 1 into a fresh forest, each with its place as label; place 0 is never scanned (RULES 3.8).
 fn unite_chunk<'a>(
     counts: &'a [u16; 32],
     log: &'a [u16],
@@ -100,9 +100,13 @@ fn unite_chunk<'a>(
     label: &mut [u8; PLACES],
 )
     requires { ⌜ half < 2 ⌝ }
+    requires { ⌜ arraysOf (now parent) (now size) (now label) ≡ freshArrays ⌝ }
     requires { ⌜ Readable n (now counts) (now log) ⌝ }
     ensures { λ _. ⌜ arraysOf (now (parent .exit)) (now (size .exit)) (now (label .exit)) ≡ unitedAll (arraysOf (now (parent .entry)) (now (size .entry)) (now (label .entry))) (chunkLinks (now (counts .entry)) (now (log .entry)) half 1 (n - 1)) ⌝ }
 {
+    // Fresh parents both, and to copy them takes less time than to make them.
+    let mut scratch = *parent;
+    let mut tops = *parent;
     let mut place = n;
     while 1 < place {
         place -= 1;
@@ -115,6 +119,8 @@ fn unite_chunk<'a>(
             parent,
             size,
             label,
+            &mut scratch,
+            &mut tops,
         );
     }
 }
@@ -128,15 +134,28 @@ fn unite_place(
     parent: &mut [u16; PLACES],
     size: &mut [u16; PLACES],
     label: &mut [u8; PLACES],
+    scratch: &mut [u16; PLACES],
+    tops: &mut [u16; PLACES],
 )
     requires { ⌜ start + 2 * count ≤ length (now log) ⌝ }
+    requires { ⌜ Beside (arraysOf (now parent) (now size) (now label)) (now scratch) (now tops) ⌝ }
     ensures { λ _. ⌜ arraysOf (now (parent .exit)) (now (size .exit)) (now (label .exit)) ≡ unitedAll (arraysOf (now (parent .entry)) (now (size .entry)) (now (label .entry))) (map (labelled place) (linksAt (now (log .entry)) start count)) ⌝ }
+    ensures { λ _. ⌜ Beside (arraysOf (now (parent .exit)) (now (size .exit)) (now (label .exit))) (now (scratch .exit)) (now (tops .exit)) ⌝ }
 {
     let mut left = count;
     while 0 < left {
         left -= 1;
         let at = start + 2 * left;
-        unite_pair(log[at], log[at + 1], place, parent, size, label);
+        unite_pair(
+            log[at],
+            log[at + 1],
+            place,
+            parent,
+            size,
+            label,
+            scratch,
+            tops,
+        );
     }
 }
 
@@ -148,8 +167,12 @@ fn unite_pair(
     parent: &mut [u16; PLACES],
     size: &mut [u16; PLACES],
     label: &mut [u8; PLACES],
+    scratch: &mut [u16; PLACES],
+    tops: &mut [u16; PLACES],
 )
+    requires { ⌜ Beside (arraysOf (now parent) (now size) (now label)) (now scratch) (now tops) ⌝ }
     ensures { λ _. ⌜ arraysOf (now (parent .exit)) (now (size .exit)) (now (label .exit)) ≡ unitedAll (arraysOf (now (parent .entry)) (now (size .entry)) (now (label .entry))) (map (labelled place) (keep (record { one = one; other = other }) [])) ⌝ }
+    ensures { λ _. ⌜ Beside (arraysOf (now (parent .exit)) (now (size .exit)) (now (label .exit))) (now (scratch .exit)) (now (tops .exit)) ⌝ }
 {
     if CELLS <= one {
         return;
@@ -157,5 +180,5 @@ fn unite_pair(
     if CELLS <= other {
         return;
     }
-    forest_unite::unite(parent, size, label, STEP_LIMIT, place, one, other);
+    forest_beside::unite(parent, size, label, scratch, tops, place, one, other);
 }

@@ -82,9 +82,7 @@ fn label_of<'a>(
     requires { ⌜ GatheredLinks (now ones) (now others) (now labels) count n ⌝ }
     ensures { λ r. ⌜ r ≡ highest (suc n) (arrayLinks (now (ones .entry)) (now (others .entry)) (now (labels .entry)) count) one other ⌝ }
 {
-    let forest = window::grow(ones, others, labels, count);
-    // One above n: a cell and itself are chained with no link at all.
-    window::highest_label(&forest.parent, &forest.label, n + 1, one, other)
+    chain_newest::newest_label(ones, others, labels, count, n, one, other)
 }
 
 // The best trail over the links with label j or more.

@@ -14,7 +14,7 @@ use Rattle.forest.specs.Arrays.{parentIn, parentAtIn, held, freshParents
 use Rattle.forest.proofs.Fill.{getD-countFrom, length-countFrom, getD-each}
 
 -- ---- fresh lists
-fresh-parent : (n c : ℕ) → parentIn (freshParents n) c ≡ c
+pub fresh-parent : (n c : ℕ) → parentIn (freshParents n) c ≡ c
 fresh-parent n c = elim (decLe n c) [ yes h ↦ List·getD-eq-default (freshParents n) c (rw length-countFrom h) | no h ↦ getD-countFrom 0 n c c (omega arith) ∙ zero-add c ]
 
 -- an entry of a list of one value, which is also the default

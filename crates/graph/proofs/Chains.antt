@@ -135,10 +135,10 @@ chained-one-more {l} (inr (inr (x, y))) =
 -- The decision
 
 -- the number of a group after a link: that of the link's one end becomes that of its other
-abbrev taken : ℕ → ℕ → ℕ → ℕ
+abbrev pub taken : ℕ → ℕ → ℕ → ℕ
 taken from to now = cond (eqb now from) to now
 
-taken-ends : (from to : ℕ) → taken from to from ≡ taken from to to
+pub taken-ends : (from to : ℕ) → taken from to from ≡ taken from to to
 taken-ends from to = rw (eq-eqb from from refl) (kept (eqb to from))
   where
     kept : (t : Bool) → to ≡ cond t to to
@@ -146,10 +146,10 @@ taken-ends from to = rw (eq-eqb from from refl) (kept (eqb to from))
     kept false = refl
 
 -- two numbers are equal, or the link leads from the one to the other in one of its two directions
-abbrev Met : ℕ → ℕ → ℕ → ℕ → Type 0
+abbrev pub Met : ℕ → ℕ → ℕ → ℕ → Type 0
 Met from to m n = (m ≡ n) ⊎ (((m ≡ from) × (to ≡ n)) ⊎ ((m ≡ to) × (from ≡ n)))
 
-taken-met : {from to m n : ℕ} → taken from to m ≡ taken from to n → Met from to m n
+pub taken-met : {from to m n : ℕ} → taken from to m ≡ taken from to n → Met from to m n
 taken-met {from} {to} {m} {n} = go (eqb m from) (eqb n from) refl refl
   where
     go : (s t : Bool) → eqb m from ≡ s → eqb n from ≡ t → cond s to m ≡ cond t to n → Met from to m n

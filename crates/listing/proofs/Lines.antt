@@ -15,7 +15,7 @@ use Rattle.slides.specs.declared.Clock.{Clock}
 use Rattle.book_state.specs.Arrays.{cells}
 use Rattle.window.specs.Window.{windowLinks}
 use Rattle.window_groups.specs.declared.Groups.{Groups}
-use Rattle.window_groups.specs.Groups.{groupOf, groupsOf}
+use Rattle.window_groups.specs.Groups.{groupOf, holdOf, groupsOf}
 use Rattle.window_groups.proofs.Cells.{group-few}
 use Rattle.window_groups.proofs.LeastHold.{hold-n}
 use Rattle.listing.specs.Lines.{leads, groupLineIf, linesOf, groupLines, lineFromArrays, linesFromArrays, FewDigits}
@@ -63,7 +63,7 @@ module _ (clock : Clock) (counts log : List ℕ) {g : Groups} (is : g ≡ groups
   groups-small n =
       rw is record {
         count-most = λ c h. rw (getD-each _ cells c 0 h) (group-few xs c);
-        hold-most = λ c h. rw (getD-each _ cells c 0 h) (omega (arith, hold-n (clock .n) xs (groupOf xs c)));
+        hold-most = λ c h. rw (getD-each _ cells c 0 h) (omega (arith, hold-n (clock .n) (holdOf (clock .n) xs) (groupOf xs c)));
       }
 
   pub groups-lines : linesFromArrays (g .first) (g .count) (g .hold) ≡ groupLines (clock .n) xs

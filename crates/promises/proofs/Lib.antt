@@ -13,6 +13,14 @@ pub mod Keeps
 pub mod KeptByLink
 pub mod KeptByOpening
 pub mod KeptByTime
+pub mod Listed
+pub mod ListedCalls
+pub mod ListedCount
+pub mod ListedExample
+pub mod ListedGroups
+pub mod ListedMeans
+pub mod ListedPrints
+pub mod ListedRecords
 pub mod Lists
 pub mod Log
 pub mod NumbersAgree

@@ -86,7 +86,6 @@ single =
         equal (r .3) (s .3) (p .third) (q .third) i,
       );
       grow = λ ones others labels count. equal;
-      highest-label = λ parent label top one other. equal;
       best-trail = λ ones others one other chain r s p q. both r s (p .count, p .buffer) (q .count, q .buffer);
       chain = λ b log chain one other r s p q. both r s (p .answered, p .written) (q .answered, q .written);
       read = λ file. equal;

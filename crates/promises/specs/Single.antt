@@ -34,7 +34,7 @@ use Rattle.book_state.specs.Log.{halfOf, spotOf, storedIn}
 use Rattle.book_state.specs.Order.{neverOpened, bookOf, inOrderOf}
 use Rattle.window.specs.Window.{windowLinks}
 use Rattle.window.specs.Gathered.{LinksPut, arrayLinks}
-use Rattle.window.specs.LinkForest.{grownFrom, highestCut}
+use Rattle.window.specs.LinkForest.{grownFrom}
 use Rattle.book_time.specs.Time.{Fresh, movedBook}
 use Rattle.book_joined.specs.Joined.{joinedOf}
 use Rattle.book.specs.Calls.{Outcome, Answer, Gives, GivesFields, openingOf, linkOf, clockOf}
@@ -90,7 +90,6 @@ pub record Single : Type 0 where
   pub gather : (clock : Clock) (counts log ones others labels : List ℕ) →
       AtMostOne {A = ℕ × List ℕ × List ℕ × List ℕ} (λ r. LinksPut (windowLinks clock counts log) 0 ones others labels (r .0) (r .1) (r .2) (r .3))
   pub grow : (ones others labels : List ℕ) (count : ℕ) → AtMostOne (λ r. r ≡ grownFrom (arrayLinks ones others labels count))
-  pub highest-label : (parent label : List ℕ) (top one other : ℕ) → AtMostOne (λ r. r ≡ highestCut top parent label one other)
   -- chain_fewest
   pub best-trail : (ones others : List ℕ) (one other : ℕ) (chain : List ℕ) →
       AtMostOne {A = ℕ × List ℕ} (λ r. TrailGiven (trailOf (linksOf ones others) one other) chain (r .0) (r .1))

@@ -1,4 +1,3 @@
-pub mod Agreeing
 pub mod Falling
 pub mod Gathered
 pub mod Growing

@@ -1,29 +1,21 @@
--- What the labelled forest of the window's links tells: the highest cut at which two walks end at one root is the highest label
--- from which on links chain the two.
---
--- The forest is grown newest slide first, so labels never rise from link to link, and at a cut it is the forest of the links
--- from that label on (graph, Cut). Chains do not depend on the order of the links.
-use Prim.Native.Nat.{ℕ, zero, suc}
+-- The labelled forest that the code grows from the window's links is graph's forest of them, taken from the last link to the first;
+-- chains do not depend on the order of the links.
+use Prim.Native.Nat.{ℕ}
 use mathlib.Core.Path.{_≡_, refl, _∙_, ap}
 use mathlib.Core.Bool.{Bool, true, false, cond}
 use mathlib.Core.List.{List, [], _∷_, map, reverse, reverseAux}
 use mathlib.Core.Logic.{_↔_, _⊎_, inl, inr, ⊎-elim}
-use native.Mathlib.Nat.{le-refl}
-use borrow.Author.Tests.{eq-eqb, ne-eqb}
-use lib.Dec.{eqb, ltb}
+use lib.Dec.{ltb}
 use lib.ListN.{length}
-use Rattle.graph.specs.Link.{Link, Linked, here, there, Chained, chains}
-use Rattle.graph.specs.Forest.{Forest, Labelled, climb, walkAt, forestOf, atLeast, EndsBelow}
-use Rattle.graph.proofs.Chains.{chained-relink, chains-true, chains-false}
-use Rattle.graph.proofs.Cut.{same-root-at}
-use Rattle.forest.specs.Arrays.{parentIn, parentAtIn, labelIn}
+use Rattle.graph.specs.Link.{Link, Linked, here, there, Chained}
+use Rattle.graph.specs.Forest.{Forest, Labelled, forestOf, atLeast, EndsBelow}
+use Rattle.graph.proofs.Chains.{chained-relink}
+use Rattle.forest.specs.Arrays.{parentIn, labelIn}
 use Rattle.book_state.specs.Arrays.{cells, stepLimit}
 use Rattle.book_state.proofs.Built.{each-reverse, Holds, holds-all}
-use Rattle.window.specs.Window.{linksFromLabel, highest}
-use Rattle.window.specs.LabelsFall.{LabelsFall}
-use Rattle.window.specs.LinkForest.{grownArrays, grownFrom, oneRootAt, highestCut}
+use Rattle.window.specs.Window.{linksFromLabel}
+use Rattle.window.specs.LinkForest.{grownArrays, grownFrom}
 use Rattle.window.specs.declared.LinkForest.{LinkForest}
-use Rattle.window.proofs.Falling.{falls-reverse}
 
 -- ---- the order of links
 
@@ -81,27 +73,3 @@ module _ {xs : List Labelled} (ends : EndsBelow cells xs) {f : LinkForest} (is :
   pub parents-long : length (f .parent) ≡ cells
   unfolding grownFrom
   parents-long = ap (λ g. length (g .parent)) is ∙ holds .parents-long
-
-  module _ {top : ℕ} (falls : LabelsFall top xs) where
-    -- two walks at a cut end at one root exactly when the links from that label on chain the two
-    one-root-chains : (cut one other : ℕ) → oneRootAt (f .parent) (f .label) cut one other ≡ chains (linksFromLabel cut xs) one other
-    unfolding walkAt grownFrom
-    one-root-chains cut one other = rw (root one, root other) (go (chains (linksFromLabel cut xs) one other) refl)
-      where
-        root : (c : ℕ) → climb (parentAtIn (f .parent) (f .label) cut) stepLimit c .root ≡ walkAt stepLimit grown cut c .root
-        root c =
-            ap (λ g. climb (parentAtIn (g .parent) (g .label) cut) stepLimit c .root) is
-            ∙ ap (λ g. walkAt stepLimit g cut c .root) (holds .holds)
-
-        same : (walkAt stepLimit grown cut one .root ≡ walkAt stepLimit grown cut other .root) ↔ Chained (linksFromLabel cut (reverse xs)) one other
-        same = same-root-at (le-refl 10) (each-reverse ends) (falls-reverse falls) cut one other
-
-        go : (t : Bool) → chains (linksFromLabel cut xs) one other ≡ t → eqb (walkAt stepLimit grown cut one .root) (walkAt stepLimit grown cut other .root) ≡ t
-        go true e = eq-eqb _ _ (same .1 (chained-reverse cut xs .1 (chains-true _ one other e)))
-        go false e = ne-eqb _ _ (λ q. chains-false _ one other e (chained-reverse cut xs .0 (same .0 q)))
-
-    -- so the highest cut is the highest label
-    pub cut-highest : (j one other : ℕ) → highestCut j (f .parent) (f .label) one other ≡ highest j xs one other
-    unfolding highestCut highest
-    cut-highest zero one other = refl
-    cut-highest (suc j) one other = rw (one-root-chains (suc j) one other, cut-highest j one other)

@@ -1,5 +1,5 @@
-// The links of the current window, newest slide first, and what their labelled forest tells: the highest label from which on
-// links chain two cells. Of a book, a window takes the clock and the counts alone.
+// The links of the current window, newest slide first, and their labelled forest. Of a book, a window takes the clock and the counts
+// alone.
 mod links; // links.rt: the links of a slide into arrays
 
 use book_state::STEP_LIMIT;
@@ -10,7 +10,7 @@ ghost use Prim.Native.Nat.{_≤_};
 ghost use Rattle.book_state.specs.Log.{Readable};
 ghost use Rattle.window.specs.Window.{windowLinks};
 ghost use Rattle.window.specs.Gathered.{LinksPut, arrayLinks};
-ghost use Rattle.window.specs.LinkForest.{grownFrom, highestCut};
+ghost use Rattle.window.specs.LinkForest.{grownFrom};
 
 // A forest of links: of each cell its parent, and the label of the step to it.
 pub struct LinkForest {
@@ -81,20 +81,4 @@ pub fn grow<'a>(
         i += 1;
     }
     LinkForest { parent, label }
-}
-
-// The highest cut, from `top` down to 1, at which the walks of the two end at one root; 0 where there is none.
-pub fn highest_label<'a>(parent: &'a [u16], label: &'a [u8], top: u8, one: u16, other: u16) -> u8
-    ensures { λ r. ⌜ r ≡ highestCut top (now (parent .entry)) (now (label .entry)) one other ⌝ }
-{
-    let mut cut = top;
-    while 0 < cut {
-        let a = forest::walks::walk_at(parent, label, STEP_LIMIT, cut, one);
-        let b = forest::walks::walk_at(parent, label, STEP_LIMIT, cut, other);
-        if a.root == b.root {
-            return cut;
-        }
-        cut -= 1;
-    }
-    0
 }

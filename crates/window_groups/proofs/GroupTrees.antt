@@ -191,14 +191,14 @@ module _ {n : ℕ} {xs ys : List Labelled} (w : Ordered n xs ys) where
     tree-hold = omega (arith, low, high (label-found (n + 1) (f .parent) (f .label) tree))
       where
         low : least - 1 ≤ leastHold n xs tree
-        low = hold-least n xs (least - 1) tree (omega (arith, label-top (n + 1) (f .parent) (f .label) tree)) noMerge
+        low = hold-least n (holdOf n xs) (least - 1) tree (omega (arith, label-top (n + 1) (f .parent) (f .label) tree)) noMerge
 
         high : Found (n + 1) (f .parent) (f .label) tree least → leastHold n xs tree ≤ least - 1
-        high (inl e) = omega (arith, hold-n n xs tree)
+        high (inl e) = omega (arith, hold-n n (holdOf n xs) tree)
         high (inr (c, m, step, e)) =
             let p : ℕ = f .parent c in
             let is = tree-in root m in
             let over = in-tree root (parent-below (le-refl 10) (w .ends) c (is .0)) (root-up c ∙ is .1) in
-            hold-most n xs (least - 1) m over (λ k. step (sym k))
+            hold-most n (holdOf n xs) (least - 1) m over (λ k. step (sym k))
             (omega (arith, highest-below xs c p (suc n) least (λ j above k. apart c step j (omega arith) (one-root-at j c p .1 k))))
             (omega (arith, highest-below xs p c (suc n) least (λ j above k. apart c step j (omega arith) (one-root-at j c p .1 (chained-sym k)))))

@@ -33,15 +33,19 @@ smallest (c ∷ cs) = c
 abbrev pub holdOf : (n : ℕ) (links : List Labelled) (one other : Cell) → ℕ
 holdOf n xs one other = highest (suc n) xs one other - 1
 
--- the least hold of c with another cell of the list; n, read as "always", where there is none
-unfoldable pub leastWith : (n : ℕ) (links : List Labelled) (cell : Cell) (others : List Cell) → ℕ
-leastWith n xs c [] = n
-leastWith n xs c (d ∷ ds) = min (holdOf n xs c d) (leastWith n xs c ds)
+-- the least of what c has with another cell of the list; `top` where there is none
+unfoldable pub leastWith : (top : ℕ) (hold : Cell → Cell → ℕ) (cell : Cell) (others : List Cell) → ℕ
+leastWith top hold c [] = top
+leastWith top hold c (d ∷ ds) = min (hold c d) (leastWith top hold c ds)
 
--- the least hold over the pairs of a list
-unfoldable pub leastHold : (n : ℕ) (links : List Labelled) (cells : List Cell) → ℕ
-leastHold n xs [] = n
-leastHold n xs (c ∷ cs) = min (leastWith n xs c cs) (leastHold n xs cs)
+-- the least over the pairs of a list
+unfoldable pub leastOver : (top : ℕ) (hold : Cell → Cell → ℕ) (cells : List Cell) → ℕ
+leastOver top hold [] = top
+leastOver top hold (c ∷ cs) = min (leastWith top hold c cs) (leastOver top hold cs)
+
+-- the least hold over the pairs of a list; n, read as "always", where there are none
+abbrev pub leastHold : (n : ℕ) (links : List Labelled) (cells : List Cell) → ℕ
+leastHold n xs cs = leastOver n (holdOf n xs) cs
 
 -- what f gives of each cell
 abbrev pub ofCells : (f : Cell → ℕ) → List ℕ

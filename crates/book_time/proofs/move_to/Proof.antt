@@ -78,7 +78,9 @@ returns-2 c fitting =
     ∙ sym (moved-further (book (entry d) fitting) (entry d .args .log .now) _ (λ e. fresh .before .before .before .before .before .before .if1 .left (after d fitting ∙ e ∙ sym (before d fitting))) (λ e. c .before .if2 .taken (after d fitting ∙ e ∙ sym (ap (λ q. q + 1) (before d fitting)))))
 
 unite-chunk-requires : tie.Need-unite-chunk-requires
-unite-chunk-requires c κs = search needs
+unite-chunk-requires c κs =
+    let f = c .before .before .before .before .before .freshen .ensures in
+    (search needs, (rw (f .backward-parents, f .backward-sizes, f .backward-labels), search needs))
 
 sub-clear-half : tie.Need-sub-clear-half
 sub-clear-half c = search needs

@@ -1,5 +1,5 @@
 -- `book::checks::link_number` meets its contract: each test is one check of the definition's, two of them that of number 3.
-use mathlib.Core.Path.{_≡_, sym, _∙_}
+use mathlib.Core.Path.{_≡_, refl, sym, _∙_}
 use mathlib.Core.Bool.{true}
 use mathlib.Core.List.{[], _∷_}
 use borrow.Author.Needs.{needs}
@@ -14,48 +14,37 @@ use Rattle.book.specs.Calls.{linkNumberIn}
 use Rattle.book.proofs.checks.link_number.Statement.{statement}
 use Rattle.book.proofs.checks.link_number.Tie as tie
 
--- the checks that were passed, at the place where the last of them was
-ordered : (c : tie.Else1) → c .before .before .args .ordered ≡ true
-ordered c = not-false _ (c .if1 .left)
-
-room : (c : tie.Else2) → has logPlaces (c .before .before .before .args .log .now) ≡ true
-room c = has-length _ _ ∙ le-leb _ _ (c .if2 .left)
+-- the log has room, where the test of that was passed
+room : (c : tie.Else1) → has logPlaces (c .before .before .args .log .now) ≡ true
+room c = has-length _ _ ∙ le-leb _ _ (c .if1 .left)
 
 returns : tie.Need-returns
-returns c = sym (fails 0 _ (not-true (c .before .before .args .ordered) (c .if1 .taken)))
+returns c = sym (passes 1 _ refl ∙ fails 5 _ (has-length logPlaces _ ∙ lt-leb _ _ (c .if1 .taken)))
 
 returns-2 : tie.Need-returns-2
-returns-2 c = sym (passes 1 _ (ordered (c .before)) ∙ fails 5 _ (has-length logPlaces _ ∙ lt-leb _ _ (c .if2 .taken)))
+returns-2 c = sym (passes 1 _ refl ∙ passes 6 _ (room (c .before)) ∙ fails 2 _ (first-no-cell (c .before .before .before .args .other) (c .if2 .taken)))
 
 returns-3 : tie.Need-returns-3
-returns-3 c =
-    sym (passes 1 _ (ordered (c .before .before)) ∙ passes 6 _ (room (c .before)) ∙ fails 2 _ (first-no-cell (c .before .before .before .before .args .other) (c .if3 .taken)))
-
-returns-4 : tie.Need-returns-4
-returns-4 c =
-    sym (passes 1 _ (ordered (c .before .before .before)) ∙ passes 6 _ (room (c .before .before)) ∙ fails 2 _ (second-no-cell (c .before .if3 .left) (c .if4 .taken)))
+returns-3 c = sym (passes 1 _ refl ∙ passes 6 _ (room (c .before .before)) ∙ fails 2 _ (second-no-cell (c .before .if2 .left) (c .if3 .taken)))
 
 not-before-requires : tie.Need-not-before-requires
 not-before-requires c κs = search needs
 
 -- what is left to check where both are cells
-left : (c : tie.Else4) → (let args = c .before .before .before .before .before .args in linkNumberIn (args .ordered) (args .clock) (args .held) (args .log .now) (args .tick) (args .one) (args .other) ≡ firstOf (unless (notBefore (args .clock) (args .tick)) 4 ∷ unless (ltb (args .held) 256) 5 ∷ []))
-left c =
-    passes 1 _ (ordered (c .before .before .before))
-    ∙ passes 6 _ (room (c .before .before))
-    ∙ passes 3 _ (both-cells (c .before .if3 .left) (c .if4 .left))
+left : (c : tie.Else3) → (let args = c .before .before .before .before .args in linkNumberIn true (args .clock) (args .held) (args .log .now) (args .tick) (args .one) (args .other) ≡ firstOf (unless (notBefore (args .clock) (args .tick)) 4 ∷ unless (ltb (args .held) 256) 5 ∷ []))
+left c = passes 1 _ refl ∙ passes 6 _ (room (c .before .before)) ∙ passes 3 _ (both-cells (c .before .if2 .left) (c .if3 .left))
 
-later : (c : tie.Else5) → (let args = c .before .before .before .before .before .before .before .args in notBefore (args .clock) (args .tick) ≡ true)
-later c = sym (c .before .not-before .ensures) ∙ not-false _ (c .if5 .left)
+later : (c : tie.Else4) → (let args = c .before .before .before .before .before .before .args in notBefore (args .clock) (args .tick) ≡ true)
+later c = sym (c .before .not-before .ensures) ∙ not-false _ (c .if4 .left)
+
+returns-4 : tie.Need-returns-4
+returns-4 c = sym (left (c .before .before) ∙ fails 3 _ (sym (c .before .not-before .ensures) ∙ not-true _ (c .if4 .taken)))
 
 returns-5 : tie.Need-returns-5
-returns-5 c = sym (left (c .before .before) ∙ fails 3 _ (sym (c .before .not-before .ensures) ∙ not-true _ (c .if5 .taken)))
+returns-5 c = sym (left (c .before .before .before) ∙ passes 4 _ (later (c .before)) ∙ fails 4 _ (le-ltb _ _ (c .if5 .taken)))
 
 returns-6 : tie.Need-returns-6
-returns-6 c = sym (left (c .before .before .before) ∙ passes 4 _ (later (c .before)) ∙ fails 4 _ (le-ltb _ _ (c .if6 .taken)))
-
-returns-7 : tie.Need-returns-7
-returns-7 c = sym (left (c .before .before .before) ∙ passes 4 _ (later (c .before)) ∙ last-passes 5 (lt-ltb _ _ (c .if6 .left)))
+returns-6 c = sym (left (c .before .before .before) ∙ passes 4 _ (later (c .before)) ∙ last-passes 5 (lt-ltb _ _ (c .if5 .left)))
 
 pub link-number-spec : {M : Type 1} → statement M
 link-number-spec =
@@ -64,8 +53,7 @@ link-number-spec =
     returns
     returns-2
     returns-3
-    returns-4
     not-before-requires
+    returns-4
     returns-5
-    returns-6
-    returns-7)
+    returns-6)

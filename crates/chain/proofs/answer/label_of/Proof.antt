@@ -1,26 +1,13 @@
--- `chain::answer::label_of` meets its contract: the forest of the links is grown, and the highest cut at which two walks in it end
--- at one root is the highest label (window, WindowForest).
-use mathlib.Core.Path.{_∙_}
-use native.Mathlib.Numerals.{add-one}
-use Rattle.window.proofs.WindowForest.{cut-highest}
-use borrow.Author.Needs.{needs}
+-- `chain::answer::label_of` meets its contract: the links of the window stand newest first.
 use Rattle.chain.proofs.answer.label_of.Statement.{statement}
 use Rattle.chain.proofs.answer.label_of.Tie as tie
 
-grow-requires : tie.Need-grow-requires
-grow-requires c κs = search needs
-
-add-highest-label : tie.Need-add-highest-label
-add-highest-label c = search needs
-
-highest-label-requires : tie.Need-highest-label-requires
-highest-label-requires c κs = search needs
+newest-label-requires : tie.Need-newest-label-requires
+newest-label-requires c κs =
+    record { many = c .pre .many; n-most = c .pre .n-most; ends = c .pre .ends; falls = c .pre .falls }
 
 returns : tie.Need-returns
-returns c =
-    let grown = c .before .before .before .before .before .before in
-    let start = grown .before in
-    rw (← add-one _) (c .highest-label .ensures ∙ cut-highest (start .pre .ends) (grown .grow .ensures) (start .pre .falls) _ _ _)
+returns c = c .newest-label .ensures
 
 pub label-of-spec : {M : Type 1} → statement M
-label-of-spec = tie.close (tie.spec grow-requires add-highest-label highest-label-requires returns)
+label-of-spec = tie.close (tie.spec newest-label-requires returns)

@@ -1,0 +1,106 @@
+-- What each exported call gives, by the definitions that the demands speak of: for every input, what it returns and, parameter by
+-- parameter, what lent memory holds afterwards; `kept` stands for a parameter that the call cannot change.
+use lib.ListN.{length, replicate}
+use denote.Ref.{now}
+use Rattle.cells.specs.Cell.{sectors, ringOf, sectorOf, lorryCell, unitCell}
+use Rattle.slides.specs.Clock.{openSlide, ticksOf}
+use Rattle.book_state.specs.Order.{neverOpened}
+use Rattle.book_joined.specs.Joined.{joinedOf}
+use Rattle.book.specs.Calls.{Outcome, openingOf, linkOf, clockOf}
+use Rattle.chain.specs.Chain.{ChainOutcome, chainOf}
+use Rattle.file.specs.Format.{readOf, writeNumber, outputOf}
+use Rattle.file_play.specs.Play.{Play, playOf}
+use Rattle.file_play.specs.Record.{packNumber, packedOf, recordOf}
+use Rattle.listing.specs.Listing.{Listing, listingOf}
+use Rattle.window_groups.specs.Call.{GroupsOutcome, groupsGiven}
+use Rattle.kerb.specs.Interface.{version, bookSize}
+use Rattle.pledges.specs.Exported.{Pledged}
+use Rattle.pledges.specs.Calls.{
+  neverOpenedCall,
+  openingCall,
+  linkCall,
+  clockCall,
+  playCall,
+  joinedCall,
+  chainCall,
+  groupsCall,
+  openSlideCall,
+  slideTicksCall,
+  readCall,
+  writeCall,
+  listCall,
+  packCall,
+  unpackCall,
+  lorryCellCall,
+  unitCellCall,
+  ringCall,
+  sectorCall,
+  versionCall,
+  bookSizeCall,
+}
+
+-- a result: what is returned, then each parameter
+infixr 20 _▸_
+abbrev pub _▸_ : {A B : Type 0} → A → B → A × B
+x ▸ y = (x, y)
+
+abbrev pub kept : Unit {0}
+kept = tt
+
+-- the arguments by name
+abbrev with1 : {A X : Type 0} → A × Unit {0} → (A → X) → X
+with1 a f = f (a .0)
+
+abbrev with2 : {A B X : Type 0} → A × (B × Unit {0}) → (A → B → X) → X
+with2 a f = with1 (a .1) (f (a .0))
+
+abbrev with3 : {A B C X : Type 0} → A × (B × (C × Unit {0})) → (A → B → C → X) → X
+with3 a f = with2 (a .1) (f (a .0))
+
+abbrev with4 : {A B C D X : Type 0} → A × (B × (C × (D × Unit {0}))) → (A → B → C → D → X) → X
+with4 a f = with3 (a .1) (f (a .0))
+
+abbrev with5 : {A B C D E X : Type 0} → A × (B × (C × (D × (E × Unit {0})))) → (A → B → C → D → E → X) → X
+with5 a f = with4 (a .1) (f (a .0))
+
+pub record Pledges : Type 2 where
+  pub kerb-never-opened : Pledged neverOpenedCall λ κs a. neverOpened ▸ tt
+  pub kerb-opening : Pledged openingCall λ κs a. with3 a λ book log s.
+      let o : Outcome = openingOf (now book) (now log) s in
+      o .number ▸ o .book ▸ o .log ▸ kept ▸ tt
+  pub kerb-link : Pledged linkCall λ κs a. with5 a λ book log tick one other.
+      let o : Outcome = linkOf (now book) (now log) tick one other in
+      o .number ▸ o .book ▸ o .log ▸ kept ▸ kept ▸ kept ▸ tt
+  pub kerb-clock : Pledged clockCall λ κs a. with3 a λ book log tick.
+      let o : Outcome = clockOf (now book) (now log) tick in
+      o .number ▸ o .book ▸ kept ▸ kept ▸ tt
+  pub kerb-play : Pledged playCall λ κs a. with3 a λ book log file.
+      let p : Play = playOf (now file) (now book) (now log) in
+      record { taken = p .taken; number = p .number } ▸ p .book ▸ p .log ▸ kept ▸ tt
+  pub kerb-joined : Pledged joinedCall λ κs a. with3 a λ book one other.
+      joinedOf (now book) one other ▸ kept ▸ kept ▸ kept ▸ tt
+  pub kerb-chain : Pledged chainCall λ κs a. with5 a λ book log one other chain.
+      let o : ChainOutcome = chainOf (now book) (now log) (now chain) one other in
+      o .answer ▸ kept ▸ kept ▸ kept ▸ kept ▸ o .chain ▸ tt
+  pub kerb-groups : Pledged groupsCall λ κs a. with5 a λ book log first size hold.
+      let o : GroupsOutcome = groupsGiven (now book) (now log) (now first) (now size) (now hold) in
+      o .answer ▸ kept ▸ kept ▸ o .first ▸ o .size ▸ o .hold ▸ tt
+  pub kerb-open-slide : Pledged openSlideCall λ κs a. with1 a λ book. openSlide (now book .clock) ▸ kept ▸ tt
+  pub kerb-slide-ticks : Pledged slideTicksCall λ κs a. with2 a λ book slide. ticksOf (now book .clock) slide ▸ kept ▸ kept ▸ tt
+  pub kerb-read : Pledged readCall λ κs a. with1 a λ file. readOf (now file) ▸ kept ▸ tt
+  pub kerb-write : Pledged writeCall λ κs a. with3 a λ s records out.
+      writeNumber s (length (now records)) (length (now out)) ▸ kept ▸ kept ▸ outputOf s (now records) (now out) ▸ tt
+  pub kerb-list : Pledged listCall λ κs a. with2 a λ file out.
+      let l : Listing = listingOf (now file) (now out) in
+      l .answer ▸ kept ▸ l .output ▸ tt
+  pub kerb-pack : Pledged packCall λ κs a. with4 a λ tick one other out.
+      packNumber (length (now out)) ▸ kept ▸ kept ▸ kept ▸ packedOf tick one other (now out) ▸ tt
+  pub kerb-unpack : Pledged unpackCall λ κs a. with2 a λ records i. recordOf (now records) i ▸ kept ▸ kept ▸ tt
+  pub kerb-lorry-cell : Pledged lorryCellCall λ κs a. with2 a λ mounting cell.
+      lorryCell (record { mounting = mounting; pad = replicate 3 0 }) cell ▸ kept ▸ kept ▸ tt
+  pub kerb-unit-cell : Pledged unitCellCall λ κs a. with2 a λ mounting cell.
+      unitCell (record { mounting = mounting; pad = replicate 3 0 }) cell ▸ kept ▸ kept ▸ tt
+  pub kerb-ring : Pledged ringCall λ κs a. with1 a λ cell. ringOf sectors cell ▸ kept ▸ tt
+  pub kerb-sector : Pledged sectorCall λ κs a. with1 a λ cell. sectorOf sectors cell ▸ kept ▸ tt
+  pub kerb-version-2 : Pledged versionCall λ κs a. version ▸ tt
+  pub kerb-book-size : Pledged bookSizeCall λ κs a. bookSize ▸ tt

@@ -1,0 +1,1 @@
+// No code: what the exported calls promise is what the definitions say.
