@@ -158,3 +158,60 @@ fn file_of(settings: Settings, records: &[u8]) -> Result<Vec<u8>, Refusal> {
     kerb::write(settings, records, &mut file)?;
     Ok(file)
 }
+
+#[cfg(test)]
+mod tests {
+    use super::*;
+    use streams::files::valid_file;
+    use streams::Dice;
+
+    /// The newest slide that has a link of these two cells, by the arithmetic of the rules and all records of the file.
+    fn newest_slide(file: &[u8], one: LorryCell, other: LorryCell) -> Option<u64> {
+        let (settings, m) = kerb::read(file).unwrap();
+        let records = (0..m).map(|i| kerb::unpack(file, i).unwrap());
+        let of_both = records.filter(|record| {
+            let [a, b] = [record.one, record.other].map(|cell| cell.to_lorry(settings.mounting));
+            (a, b) == (one, other) || (b, a) == (one, other)
+        });
+        let slides = of_both.map(|record| u64::from((record.tick - settings.t0) / settings.b));
+        slides.max()
+    }
+
+    /// Drawn recordings: each cell of a group and the group's first one. Each link stands between neighbours of the chain, in the
+    /// newest slide that has it, and none is older than L.
+    #[test]
+    fn each_link_of_a_chain_is_told_with_its_newest_slide() {
+        let mut dice = Dice::new(5);
+        let (mut older, mut links) = (0, 0);
+        for _ in 0..20 {
+            let file = valid_file(&mut dice);
+            let Ok(recording) = Recording::played(&file, None) else {
+                continue;
+            };
+            for group in recording.groups().unwrap().groups {
+                for &cell in &group.cells[1..] {
+                    let why = recording.why(group.cells[0], cell).unwrap().unwrap();
+                    let ends: Vec<_> = why
+                        .links
+                        .iter()
+                        .map(|link| [link.one, link.other])
+                        .collect();
+                    let neighbours: Vec<_> =
+                        why.chain.windows(2).map(|two| [two[0], two[1]]).collect();
+                    assert_eq!(ends, neighbours);
+                    for link in why.links {
+                        let slide = newest_slide(&file, link.one, link.other);
+                        assert_eq!(Some(link.last.slide), slide);
+                        assert!(link.last.slide >= why.newest);
+                        older += u32::from(link.last.slide < recording.now().slide);
+                        links += 1;
+                    }
+                }
+            }
+        }
+        assert!(
+            older > 100 && links > 2 * older,
+            "{older} of {links} are older than the open slide"
+        );
+    }
+}
