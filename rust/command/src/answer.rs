@@ -14,43 +14,34 @@ pub struct Answer {
     pub status: u8,
 }
 
-pub fn answer(request: Request) -> Result<Answer, Trouble> {
-    let json = request.json;
-    let refused = |refused: Refused| {
-        let text = if json {
-            refused.json().line()
-        } else {
-            String::new()
-        };
-        Trouble::Refused(refused, text)
-    };
-    match request.question {
+pub fn answer(Request { question, as_json }: Request) -> Result<Answer, Trouble> {
+    match question {
         Question::Help(text) => done(text.to_string()),
         Question::Version => done(words::version()),
-        Question::List(input) => list(&bytes(&input)?, json),
+        Question::List(input) => list(&bytes(&input)?, as_json),
         Question::Why {
             input,
             one,
             other,
             at,
         } => {
-            let recording = Recording::played(&bytes(&input)?, at).map_err(refused)?;
-            let why = recording.why(one, other).map_err(refused)?;
-            let said = if json { json::why } else { words::why };
+            let recording = Recording::played(&bytes(&input)?, at).map_err(refused(as_json))?;
+            let why = recording.why(one, other).map_err(refused(as_json))?;
+            let said = if as_json { json::why } else { words::why };
             Ok(Answer {
                 text: said(&recording, (one, other), why.as_ref()),
                 status: if why.is_some() { 0 } else { 1 },
             })
         }
         Question::Groups { input, at } => {
-            let recording = Recording::played(&bytes(&input)?, at).map_err(refused)?;
-            let groups = recording.groups().map_err(refused)?;
-            let said = if json { json::groups } else { words::groups };
+            let recording = Recording::played(&bytes(&input)?, at).map_err(refused(as_json))?;
+            let groups = recording.groups().map_err(refused(as_json))?;
+            let said = if as_json { json::groups } else { words::groups };
             done(said(&recording, &groups))
         }
         Question::Cell { number, mounting } => {
-            let mountings = cell_and_mountings(number, mounting).map_err(refused)?;
-            let said = if json { json::cell } else { words::cell };
+            let mountings = mountings(number, mounting).map_err(refused(as_json))?;
+            let said = if as_json { json::cell } else { words::cell };
             done(said(number, &mountings))
         }
     }
@@ -60,25 +51,25 @@ fn done(text: String) -> Result<Answer, Trouble> {
     Ok(Answer { text, status: 0 })
 }
 
+/// A refusal, with its line on standard output where JSON is wanted.
+fn refused(as_json: bool) -> impl Fn(Refused) -> Trouble {
+    move |refused| {
+        let line = as_json.then(|| refused.json().line());
+        Trouble::Refused(refused, line.unwrap_or_default())
+    }
+}
+
 /// What kerblist prints, which for a refusal is a line too.
 fn list(file: &[u8], as_json: bool) -> Result<Answer, Trouble> {
-    match Recording::played(file, None) {
-        Ok(recording) if as_json => {
-            let unplayed = |refused| Trouble::Refused(refused, String::new());
-            done(json::list(
-                &recording,
-                &recording.groups().map_err(unplayed)?,
-            ))
-        }
+    let played = Recording::played(file, None);
+    if as_json {
+        let recording = played.map_err(refused(as_json))?;
+        let groups = recording.groups().map_err(refused(as_json))?;
+        return done(json::list(&recording, &groups));
+    }
+    match played {
         Ok(_) => done(listing(file)),
-        Err(refused) => {
-            let text = if as_json {
-                refused.json().line()
-            } else {
-                listing(file)
-            };
-            Err(Trouble::Refused(refused, text))
-        }
+        Err(refused) => Err(Trouble::Refused(refused, listing(file))),
     }
 }
 
@@ -91,20 +82,16 @@ fn listing(file: &[u8]) -> String {
     String::from_utf8(text).expect("a listing is words and numbers")
 }
 
-/// The mountings to tell of: the one that is asked for, or both, since none is a default.
-fn cell_and_mountings(number: u16, mounting: Option<u8>) -> Result<Vec<Mounting>, Refused> {
+/// The mountings to tell of for a cell: the one that is asked for, or both, since none is a default.
+fn mountings(number: u16, mounting: Option<u8>) -> Result<Vec<Mounting>, Refused> {
+    let refused = Refused::of(About::CommandLine);
     if usize::from(number) >= kerb::CELLS {
-        return Err(Refused {
-            refusal: Refusal::NoCell,
-            about: About::CommandLine,
-        });
+        return Err(refused(Refusal::NoCell));
     }
-    let Some(mounting) = mounting else {
-        return Ok(vec![Mounting::Plain, Mounting::Mirrored]);
-    };
-    let about = About::CommandLine;
-    let asked = Mounting::try_from(mounting).map_err(|refusal| Refused { refusal, about })?;
-    Ok(vec![asked])
+    match mounting {
+        None => Ok(vec![Mounting::Plain, Mounting::Mirrored]),
+        Some(mounting) => Ok(vec![Mounting::try_from(mounting).map_err(refused)?]),
+    }
 }
 
 /// The recording's bytes, at most one more than the longest link file has: enough to tell that a file is too long.

@@ -17,7 +17,7 @@ pub enum Input {
 #[derive(Debug, PartialEq)]
 pub struct Request {
     pub question: Question,
-    pub json: bool,
+    pub as_json: bool,
 }
 
 #[derive(Debug, PartialEq)]
@@ -43,6 +43,9 @@ pub enum Question {
     },
 }
 
+/// The commands whose answers can be had as JSON.
+const ANSWERS: &[&str] = &["list", "why", "groups", "cell"];
+
 /// The words of a command line, options apart from the rest.
 #[derive(Default)]
 struct Words {
@@ -56,7 +59,7 @@ struct Words {
 
 pub fn parse(words: impl Iterator<Item = OsString>) -> Result<Request, Trouble> {
     let mut words = sorted(words)?;
-    let json = words.json;
+    let as_json = words.json;
     let question = if words.version {
         Question::Version
     } else if words.plain.is_empty() {
@@ -68,28 +71,18 @@ pub fn parse(words: impl Iterator<Item = OsString>) -> Result<Request, Trouble> 
         let command = words.plain.remove(0);
         question(&command, words)?
     };
-    Ok(Request { question, json })
+    Ok(Request { question, as_json })
 }
 
 /// What is asked by a command and the words that follow it.
 fn question(command: &OsStr, mut words: Words) -> Result<Question, Trouble> {
-    let Some((name, text)) = help::of(command) else {
-        return Err(wrong(&format!(
-            "there is no command {}",
-            command.to_string_lossy()
-        )));
-    };
+    let (name, text) = known(command)?;
     if words.help {
         return Ok(Question::Help(text));
     }
     takes(name, "--at", words.at.is_some(), &["why", "groups"])?;
     takes(name, "--mounting", words.mounting.is_some(), &["cell"])?;
-    takes(
-        name,
-        "--json",
-        words.json,
-        &["list", "why", "groups", "cell"],
-    )?;
+    takes(name, "--json", words.json, ANSWERS)?;
     let plain = &mut words.plain;
     match name {
         "list" => Ok(Question::List(only_input(name, plain)?)),
@@ -119,16 +112,16 @@ fn question(command: &OsStr, mut words: Words) -> Result<Question, Trouble> {
         }
         _ => match plain.as_slice() {
             [] => Ok(Question::Help(help::ALL)),
-            [about] => match help::of(about) {
-                Some((_, text)) => Ok(Question::Help(text)),
-                None => Err(wrong(&format!(
-                    "there is no command {}",
-                    about.to_string_lossy()
-                ))),
-            },
+            [about] => Ok(Question::Help(known(about)?.1)),
             _ => Err(wrong("help is about one command: kerb help COMMAND")),
         },
     }
+}
+
+/// A command's name and its help.
+fn known(command: &OsStr) -> Result<(&'static str, &'static str), Trouble> {
+    let word = command.to_string_lossy();
+    help::of(command).ok_or_else(|| wrong(&format!("there is no command {word}")))
 }
 
 /// Parts options from plain words. What follows `--` is plain, and `-` is: it names standard input.

@@ -22,11 +22,11 @@ impl<N: Into<u64>> From<N> for Json {
 }
 
 impl Json {
-    pub fn or_null(number: Option<impl Into<u64>>) -> Json {
+    fn or_null(number: Option<impl Into<u64>>) -> Json {
         number.map_or(Json::Null, Json::from)
     }
 
-    pub fn list(of: impl Iterator<Item = Json>) -> Json {
+    fn list(of: impl Iterator<Item = Json>) -> Json {
         Json::List(of.collect())
     }
 

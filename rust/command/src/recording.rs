@@ -32,7 +32,8 @@ pub struct Why {
     pub newest: u64,
     pub newest_ticks: Option<(u32, u32)>,
     pub hold: u8,
-    /// The last tick at which the two are still joined if nothing more is seen; none where ticks end before they part.
+    /// The last tick at which the two are still joined if nothing more is seen; none where ticks end before they part, and for a
+    /// cell and itself, which never do.
     pub until: Option<u32>,
 }
 
@@ -53,27 +54,20 @@ impl Recording {
     /// The file played into a book of its settings. With a tick, only the records up to the first that is later are played, and
     /// then the time moves to the tick.
     pub fn played(file: &[u8], at: Option<u32>) -> Result<Recording, Refused> {
-        let in_file = |refusal| Refused {
-            refusal,
-            about: About::File,
-        };
-        let (settings, m) = kerb::read(file).map_err(in_file)?;
-        let mut book = Book::open(settings).map_err(in_file)?;
+        let in_file = Refused::of(About::File);
+        let (settings, m) = kerb::read(file).map_err(&in_file)?;
+        let mut book = Book::open(settings).map_err(&in_file)?;
         let records: Result<Vec<Record>, Refusal> = (0..m).map(|i| kerb::unpack(file, i)).collect();
-        let mut played = records.map_err(in_file)?;
+        let mut played = records.map_err(&in_file)?;
 
-        let at_record = |stopped: kerb::Stopped| Refused {
-            refusal: stopped.refusal,
-            about: About::Record(stopped.taken),
-        };
+        let at_record =
+            |stopped: kerb::Stopped| Refused::of(About::Record(stopped.taken))(stopped.refusal);
         if let Some(at) = at {
             let taken = played.iter().take_while(|record| record.tick <= at);
             played.truncate(taken.count());
             let part = file_of(settings, &file[..RECORD_BYTES * played.len()]);
-            book.play(&part.map_err(in_file)?).map_err(at_record)?;
-            let about = About::Tick(at);
-            book.clock(at)
-                .map_err(|refusal| Refused { refusal, about })?;
+            book.play(&part.map_err(&in_file)?).map_err(at_record)?;
+            book.clock(at).map_err(Refused::of(About::Tick(at)))?;
         } else {
             book.play(file).map_err(at_record)?;
         }
@@ -94,14 +88,12 @@ impl Recording {
 
     /// Why two cells are joined; none where nothing in the window ties them.
     pub fn why(&self, one: LorryCell, other: LorryCell) -> Result<Option<Why>, Refused> {
-        let (answer, chain) = match self.book.why(one, other) {
-            Err(Refusal::NoTrail) => return Ok(None),
-            Err(refusal) => {
-                let about = About::CommandLine;
-                return Err(Refused { refusal, about });
-            }
-            Ok(answer) => answer,
-        };
+        let asked = self.book.why(one, other);
+        if asked == Err(Refusal::NoTrail) {
+            return Ok(None);
+        }
+        let (answer, chain) = asked.map_err(Refused::of(About::CommandLine))?;
+        let part = one != other;
         let neighbours = chain.windows(2);
         Ok(Some(Why {
             links: neighbours
@@ -111,16 +103,12 @@ impl Recording {
             newest: answer.newest,
             newest_ticks: self.book.slide_ticks(answer.newest),
             hold: answer.hold,
-            until: self.last_tick_after(answer.hold),
+            until: part.then(|| self.last_tick_after(answer.hold)).flatten(),
         }))
     }
 
     pub fn groups(&self) -> Result<Groups, Refused> {
-        let about = About::File;
-        let found = self
-            .book
-            .groups()
-            .map_err(|refusal| Refused { refusal, about })?;
+        let found = self.book.groups().map_err(Refused::of(About::File))?;
         let cells_from = |first| {
             let all = (0..kerb::CELLS as u16).map(LorryCell);
             all.filter(|&cell| found.of(cell).is_some_and(|group| group.first == first))
@@ -141,11 +129,8 @@ impl Recording {
     fn seen(&self, one: LorryCell, other: LorryCell, newest: u64) -> Seen {
         let mounting = self.settings.mounting;
         let of_both = |record: &&Record| {
-            let cells = (
-                record.one.to_lorry(mounting),
-                record.other.to_lorry(mounting),
-            );
-            cells == (one, other) || cells == (other, one)
+            let cells = [record.one, record.other].map(|cell| cell.to_lorry(mounting));
+            cells == [one, other] || cells == [other, one]
         };
         let record = self.played.iter().rev().find(of_both);
         let tick = record.expect("each link of a chain was played").tick;
@@ -172,4 +157,61 @@ fn file_of(settings: Settings, records: &[u8]) -> Result<Vec<u8>, Refusal> {
     let mut file = vec![0; records.len() + kerb::ENDING_BYTES];
     kerb::write(settings, records, &mut file)?;
     Ok(file)
+}
+
+#[cfg(test)]
+mod tests {
+    use super::*;
+    use streams::files::valid_file;
+    use streams::Dice;
+
+    /// The newest slide that has a link of these two cells, by the arithmetic of the rules and all records of the file.
+    fn newest_slide(file: &[u8], one: LorryCell, other: LorryCell) -> Option<u64> {
+        let (settings, m) = kerb::read(file).unwrap();
+        let records = (0..m).map(|i| kerb::unpack(file, i).unwrap());
+        let of_both = records.filter(|record| {
+            let [a, b] = [record.one, record.other].map(|cell| cell.to_lorry(settings.mounting));
+            (a, b) == (one, other) || (b, a) == (one, other)
+        });
+        let slides = of_both.map(|record| u64::from((record.tick - settings.t0) / settings.b));
+        slides.max()
+    }
+
+    /// Drawn recordings: each cell of a group and the group's first one. Each link stands between neighbours of the chain, in the
+    /// newest slide that has it, and none is older than L.
+    #[test]
+    fn each_link_of_a_chain_is_told_with_its_newest_slide() {
+        let mut dice = Dice::new(5);
+        let (mut older, mut links) = (0, 0);
+        for _ in 0..20 {
+            let file = valid_file(&mut dice);
+            let Ok(recording) = Recording::played(&file, None) else {
+                continue;
+            };
+            for group in recording.groups().unwrap().groups {
+                for &cell in &group.cells[1..] {
+                    let why = recording.why(group.cells[0], cell).unwrap().unwrap();
+                    let ends: Vec<_> = why
+                        .links
+                        .iter()
+                        .map(|link| [link.one, link.other])
+                        .collect();
+                    let neighbours: Vec<_> =
+                        why.chain.windows(2).map(|two| [two[0], two[1]]).collect();
+                    assert_eq!(ends, neighbours);
+                    for link in why.links {
+                        let slide = newest_slide(&file, link.one, link.other);
+                        assert_eq!(Some(link.last.slide), slide);
+                        assert!(link.last.slide >= why.newest);
+                        older += u32::from(link.last.slide < recording.now().slide);
+                        links += 1;
+                    }
+                }
+            }
+        }
+        assert!(
+            older > 100 && links > 2 * older,
+            "{older} of {links} are older than the open slide"
+        );
+    }
 }

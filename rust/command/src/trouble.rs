@@ -25,6 +25,11 @@ pub struct Refused {
 }
 
 impl Refused {
+    /// A refusal of this.
+    pub fn of(about: About) -> impl Fn(Refusal) -> Refused {
+        move |refusal| Refused { refusal, about }
+    }
+
     pub fn json(&self) -> Json {
         let mut fields = vec![("refused", Json::from(self.refusal.number()))];
         match self.about {

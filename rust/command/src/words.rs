@@ -24,9 +24,10 @@ pub fn why(
 ) -> String {
     let now = moment(recording.now());
     let Some(why) = why else {
-        let n = recording.settings.n;
-        let (one, other) = (one.0, other.0);
-        return format!("Cells {one} and {other} are not joined {now}: nothing in the window, the last {n} slides, ties them.\n");
+        let (one, other, window) = (one.0, other.0, window(recording));
+        return format!(
+            "Cells {one} and {other} are not joined {now}: nothing in the {window}, ties them.\n"
+        );
     };
     if one == other {
         return format!("Cell {} is joined with itself, always.\n", one.0);
@@ -57,14 +58,12 @@ pub fn why(
 }
 
 pub fn groups(recording: &Recording, groups: &Groups) -> String {
-    let counted =
-        |number: usize, of: &str| format!("{number} {of}{}", if number == 1 { "" } else { "s" });
     let (found, links) = (
         counted(groups.groups.len(), "group"),
         counted(groups.links as usize, "link"),
     );
-    let (now, n) = (moment(recording.now()), recording.settings.n);
-    let mut text = format!("{found} {now}; {links} in the window, the last {n} slides.\n");
+    let (now, window) = (moment(recording.now()), window(recording));
+    let mut text = format!("{found} {now}; {links} in the {window}.\n");
     for group in &groups.groups {
         let size = counted(group.cells.len(), "cell");
         text += &format!(
@@ -95,11 +94,20 @@ pub fn cell(number: u16, mountings: &[Mounting]) -> String {
     text
 }
 
-pub fn name(mounting: Mounting) -> &'static str {
+fn name(mounting: Mounting) -> &'static str {
     match mounting {
         Mounting::Plain => "plain",
         Mounting::Mirrored => "mirrored",
     }
+}
+
+fn counted(number: usize, of: &str) -> String {
+    format!("{number} {of}{}", if number == 1 { "" } else { "s" })
+}
+
+fn window(recording: &Recording) -> String {
+    let slides = counted(usize::from(recording.settings.n), "slide");
+    format!("window, the last {slides}")
 }
 
 fn place(cell: LorryCell) -> String {

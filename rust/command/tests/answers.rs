@@ -162,6 +162,13 @@ fn there_may_be_no_tick_at_which_two_part() {
         "{}",
         ran.out
     );
+    // nor is there one for a cell and itself
+    let ran = kerb(&["why", LIFT, "7", "7", "--json"]);
+    assert!(
+        ran.out.ends_with("\"hold\":5,\"until\":null}\n"),
+        "{}",
+        ran.out
+    );
 }
 
 #[test]

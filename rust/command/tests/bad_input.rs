@@ -2,11 +2,11 @@
 
 mod common;
 
-use common::{command, kerb, kerb_fed, ran, recording, words, Ran};
+use common::{command, kerb, kerb_fed, ran, recording, started, words, Ran};
 use kerb::{Mounting, Settings};
 use std::fs::File;
 use std::io::Write;
-use std::process::{Command, Stdio};
+use std::process::Command;
 
 const LIFT: &str = "samples/tail_lift_and_walker.kerb";
 
@@ -234,12 +234,7 @@ fn refused_files_are_status_2_with_the_number_in_words() {
 /// A gigabyte of zeros is refused as too long, once as many bytes are read as tell it.
 #[test]
 fn a_gigabyte_of_zeros_is_refused() {
-    let mut command = command(&["list"]);
-    command
-        .stdin(Stdio::piped())
-        .stdout(Stdio::piped())
-        .stderr(Stdio::piped());
-    let mut child = command.spawn().expect("it starts");
+    let mut child = started(&["list"]);
     let mut input = child.stdin.take().expect("its input");
     let megabyte = vec![0; 1 << 20];
     let written = (0..1024)
@@ -285,12 +280,7 @@ fn what_cannot_be_written_is_status_3() {
         );
     }
 
-    let mut command = command(&["list"]);
-    command
-        .stdin(Stdio::piped())
-        .stdout(Stdio::piped())
-        .stderr(Stdio::piped());
-    let mut child = command.spawn().expect("it starts");
+    let mut child = started(&["list"]);
     drop(child.stdout.take());
     let file = std::fs::read(common::root().join(LIFT)).expect("the sample");
     child

@@ -1,4 +1,4 @@
-//! The words of a refusal are those of include/kerb.h: what examples/numbers.c prints.
+//! The words of a refusal are those of include/kerb.h: what examples/numbers.c prints. And stored books, openings, the longest file.
 
 use kerb::{calls, Refusal};
 
@@ -77,4 +77,24 @@ fn an_opening_leaves_no_byte_of_what_was_there() {
         kerb::RawBook::never_opened().as_bytes(),
         &[0; kerb::RawBook::BYTES]
     );
+}
+
+/// The longest link file has as many bytes as the constants say, and one record more is refused.
+#[test]
+fn the_longest_link_file() {
+    let settings = kerb::Settings {
+        t0: 0,
+        b: 1,
+        n: 1,
+        mounting: kerb::Mounting::Plain,
+    };
+    let records = vec![0; kerb::FILE_BYTES - kerb::ENDING_BYTES];
+    let mut file = vec![0; kerb::FILE_BYTES];
+    kerb::write(settings, &records, &mut file).unwrap();
+    let m = (records.len() / kerb::RECORD_BYTES) as u32;
+    assert_eq!(kerb::read(&file), Ok((settings, m)));
+
+    let longer = vec![0; records.len() + kerb::RECORD_BYTES];
+    let refused = kerb::write(settings, &longer, &mut file);
+    assert_eq!(refused, Err(Refusal::Length));
 }

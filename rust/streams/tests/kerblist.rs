@@ -7,13 +7,25 @@ use oracle::listing;
 use std::collections::BTreeMap;
 use std::io::Write;
 use std::process::{Command, Stdio};
+use std::sync::Once;
 use streams::files::{damage, edge_files, every_field, valid_file};
 use streams::Dice;
 
 const SCRIPT: &str = concat!(env!("CARGO_MANIFEST_DIR"), "/../../kerblist");
 const ROOT: &str = concat!(env!("CARGO_MANIFEST_DIR"), "/../..");
 
+/// The program is built before it is run, so that no run says that it builds.
+fn build() {
+    static ONCE: Once = Once::new();
+    ONCE.call_once(|| {
+        let mut build = Command::new("tools/build");
+        let status = build.arg("kerblist").current_dir(ROOT).status();
+        assert!(status.expect("tools/build starts").success());
+    });
+}
+
 fn kerblist(file: &[u8]) -> (String, Option<i32>) {
+    build();
     let mut program = Command::new(SCRIPT)
         .stdin(Stdio::piped())
         .stdout(Stdio::piped())
@@ -73,6 +85,7 @@ fn kerblist_prints_what_the_oracle_prints() {
 
 /// A line of a shell, in the repository's folder: its status, standard output and standard error.
 fn shell(line: &str) -> (Option<i32>, String, String) {
+    build();
     let mut shell = Command::new("bash");
     shell.args(["-c", line]).current_dir(ROOT);
     let output = shell.output().expect("bash starts");

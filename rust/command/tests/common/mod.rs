@@ -5,7 +5,7 @@
 use kerb::{pack, Settings, UnitCell, ENDING_BYTES};
 use std::io::Write;
 use std::path::{Path, PathBuf};
-use std::process::{Command, Output, Stdio};
+use std::process::{Child, Command, Output, Stdio};
 
 /// What a run ended with, printed and complained.
 #[derive(Debug)]
@@ -49,12 +49,17 @@ pub fn kerb(args: &[&str]) -> Ran {
     ran(command.stdin(Stdio::null()).output().expect("it starts"))
 }
 
-/// Runs it with these bytes on standard input.
-pub fn kerb_fed(args: &[&str], bytes: &[u8]) -> Ran {
+/// Starts it with pipes all round.
+pub fn started(args: &[&str]) -> Child {
     let mut command = command(args);
     command.stdin(Stdio::piped());
     command.stdout(Stdio::piped()).stderr(Stdio::piped());
-    let mut child = command.spawn().expect("it starts");
+    command.spawn().expect("it starts")
+}
+
+/// Runs it with these bytes on standard input.
+pub fn kerb_fed(args: &[&str], bytes: &[u8]) -> Ran {
+    let mut child = started(args);
     // it stops reading where a file is too long, and the rest then finds no reader
     let _ = child.stdin.take().expect("its input").write_all(bytes);
     ran(child.wait_with_output().expect("its output"))
