@@ -80,7 +80,7 @@ pub record Single : Type 0 where
   pub link : (b : Book) (log : List ℕ) (tick one other : ℕ) →
       AtMostOne {A = Answer × List ℕ} (λ r. Gives (linkOf b log tick one other) (r .0) (r .1))
   pub clock : (b : Book) (log : List ℕ) (tick : ℕ) → AtMostOne (λ r. Gives (clockOf b log tick) r log)
-  -- book, over lent fields
+  -- book, over lent fields; `link_in_order` ensures what `link` does
   pub fields-opening : (b : Book) (log : List ℕ) (s : Settings) → AtMostOne (FieldsGive (openingOf b log s))
   pub fields-link : (b : Book) (log : List ℕ) (tick one other : ℕ) → AtMostOne (FieldsGive (linkOf b log tick one other))
   pub fields-clock : (b : Book) (log : List ℕ) (tick : ℕ) → AtMostOne (FieldsGive (clockOf b log tick))
