@@ -181,21 +181,30 @@ fn goes<'a>(parent: &'a [u16], label: &'a [u8], cut: u8, cell: u16) -> bool
     step.root != cell
 }
 
-// The same of one forest at a cut. The pass keeps a flag and goes on, with no way out: so a machine can do several cells at a time.
+// The same of one forest at a cut. The pass counts, in the width of the cells, and goes on, with no way out: so a machine can do several
+// cells at a time.
 fn alone_in<'a>(parent: &'a [u16], label: &'a [u8], cut: u8, asked: u16) -> bool
     requires { ⌜ (length (now parent) ≡ cells) × (length (now label) ≡ cells) ⌝ }
     ensures { λ r. ⌜ r ≡ aloneIn (parentAtIn (now (parent .entry)) (now (label .entry)) cut) asked ⌝ }
 {
-    let mut fine = true;
+    let mut steps: u16 = 0;
     let mut cell: u16 = 0;
     while cell < CELLS {
         let at = cell as usize;
-        if !spares(asked, cell, parent[at], label[at], cut) {
-            fine = false;
-        }
+        steps += touch(asked, cell, parent[at], label[at], cut);
         cell += 1;
     }
-    fine
+    steps == 0
+}
+
+// 1 where this cell's step leaves or reaches the cell asked for, and else 0.
+fn touch(asked: u16, cell: u16, parent: u16, label: u8, cut: u8) -> u16
+    ensures { λ r. ⌜ r ≡ cond (spares asked cell (cond (ltb label cut) cell parent)) 0 1 ⌝ }
+{
+    if spares(asked, cell, parent, label, cut) {
+        return 0;
+    }
+    1
 }
 
 // Whether the cell asked for is this cell and its own parent at the cut, or neither this cell nor its parent. The label is
