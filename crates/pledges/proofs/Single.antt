@@ -10,7 +10,7 @@ use Rattle.book.specs.Calls.{Answer}
 use Rattle.buckets.proofs.Listing.{one-listing}
 use Rattle.forest_cross.proofs.Joined.{one-answer}
 use Rattle.pledges.specs.Pledges.{_▸_}
-use Rattle.pledges.specs.Single.{freshenFn, moveToFn, fieldsOpeningFn, fieldsLinkFn, fieldsLinkInOrderFn, fieldsClockFn, gatherFn, bestTrailFn, chainOverFn, playOverFn, playFileFn, groupsOverFn, putWordFn, putFieldsFn, putLineFn, listFn, uniteFn, listEntriesFn, joinedAcrossFn, Single}
+use Rattle.pledges.specs.Single.{freshenFn, moveToFn, fieldsOpeningFn, fieldsLinkFn, fieldsLinkInOrderFn, fieldsClockFn, gatherFn, gatherNewestFn, bestTrailFn, chainOverFn, playOverFn, playFileFn, groupsOverFn, putWordFn, putFieldsFn, putLineFn, listFn, uniteFn, listEntriesFn, joinedAcrossFn, Single}
 use Rattle.pledges.proofs.Exported.{single-claim}
 
 -- two that equal a third
@@ -50,6 +50,8 @@ single =
           ▸ b .«backward_parent» ▸ b .«backward_size» ▸ b .«backward_label» ▸ tt ▸ tt ▸ tt;
       window-gather = single-claim gatherFn (λ w κs a g r e. refl) λ κs a r s p q i.
           equal (p .until) (q .until) i ▸ tt ▸ tt ▸ tt ▸ equal (p .first) (q .first) i ▸ equal (p .second) (q .second) i ▸ equal (p .third) (q .third) i ▸ tt;
+      window-gather-newest = single-claim gatherNewestFn (λ w κs a g r e. refl) λ κs a r s p q i.
+          equal (p .until) (q .until) i ▸ tt ▸ tt ▸ tt ▸ tt ▸ equal (p .first) (q .first) i ▸ equal (p .second) (q .second) i ▸ equal (p .third) (q .third) i ▸ tt;
       chain-fewest-best-trail = single-claim bestTrailFn (λ w κs a g r e. refl) λ κs a r s p q i.
           equal (p .count) (q .count) i ▸ tt ▸ tt ▸ tt ▸ tt ▸ equal (p .buffer) (q .buffer) i ▸ tt;
       chain-over-fields = single-claim chainOverFn (λ w κs a g r e. refl) λ κs a r s p q i.

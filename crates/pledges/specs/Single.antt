@@ -8,6 +8,7 @@ use Rattle.book.proofs.fields.link as fields_link
 use Rattle.book.proofs.fields.link_in_order as fields_link_in_order
 use Rattle.book.proofs.fields.clock as fields_clock
 use Rattle.window.proofs.gather
+use Rattle.window.proofs.gather_newest
 use Rattle.chain_fewest.proofs.best_trail
 use Rattle.chain.proofs.over_fields as chain_over
 use Rattle.file_play.proofs.over_fields as play_over
@@ -42,6 +43,9 @@ fieldsClockFn = record { ended = fields_clock.ended; clauses = λ M. fields_cloc
 
 abbrev pub gatherFn : Exported
 gatherFn = record { ended = gather.ended; clauses = λ M. gather.clauses; routine = gather.Symbol.routine; met = λ M. gather.Met.met }
+
+abbrev pub gatherNewestFn : Exported
+gatherNewestFn = record { ended = gather_newest.ended; clauses = λ M. gather_newest.clauses; routine = gather_newest.Symbol.routine; met = λ M. gather_newest.Met.met }
 
 abbrev pub bestTrailFn : Exported
 bestTrailFn = record { ended = best_trail.ended; clauses = λ M. best_trail.clauses; routine = best_trail.Symbol.routine; met = λ M. best_trail.Met.met }
@@ -87,6 +91,7 @@ pub record Single : Type 2 where
   pub book-fields-link-in-order : SingleResult fieldsLinkInOrderFn
   pub book-fields-clock : SingleResult fieldsClockFn
   pub window-gather : SingleResult gatherFn
+  pub window-gather-newest : SingleResult gatherNewestFn
   pub chain-fewest-best-trail : SingleResult bestTrailFn
   pub chain-over-fields : SingleResult chainOverFn
   pub file-play-over-fields : SingleResult playOverFn
