@@ -11,7 +11,7 @@ use Rattle.promises.proofs.ListedRecords.{records-told}
 pub listed : Listed
 listed =
     record {
-      plays = λ file fine s cs h told. plays-told file fine (keeps s cs h told);
+      plays = λ file s cs h told. plays-told file (keeps s cs h told);
       groups = λ s cs h told. groups-told (keeps s cs h told);
       means = λ s cs h told c. group-means (keeps s cs h told) c;
       prints = prints-told;

@@ -101,16 +101,24 @@ calls-made file (suc more) i s = go (given file i s .number) refl (calls-made fi
 
 -- ---- the play call
 
-module _ (file : List ℕ) (fine : readNumber file ≡ 0) {h : History} {s : State} (a : Agrees h s) where
-  played : playOf file (s .book) (s .log) ≡ playing file 0 (readOf file .m) s
+module _ (file : List ℕ) {h : History} {s : State} (a : Agrees h s) where
+  played : readNumber file ≡ 0 → playOf file (s .book) (s .log) ≡ playing file 0 (readOf file .m) s
   unfolding playOf fileByNumber
-  played = rw (read-number file ∙ fine)
+  played e = rw (read-number file ∙ e)
+
+  not-played : (k : ℕ) → (k ≡ 0 → ⊥)
+      → fileByNumber k file (readOf file .m) (s .book) (s .log) ≡ record { book = s .book; log = s .log; number = k; taken = 0 }
+  unfolding fileByNumber
+  not-played zero n = absurd (n refl)
+  not-played (suc k) n = refl
 
   pub plays-told : Plays file s h (playOf file (s .book) (s .log))
+  unfolding playOf
   plays-told =
       let m : Made file 0 (readOf file .m) s (playing file 0 (readOf file .m) s) = calls-made file (readOf file .m) 0 s in
-      rw played record {
-        refusal = played-refusal file (readOf file .m) 0 h s a;
-        calls = rw (m .place ∙ zero-add (m .before)) (m .made);
-        whole = played-whole file (readOf file .m) 0 s;
+      record {
+        unread = λ n. rw (read-number file) (not-played (readNumber file) n);
+        refusal = λ e. rw (played e) (played-refusal file (readOf file .m) 0 h s a);
+        calls = λ e. rw (played e, m .place ∙ zero-add (m .before)) (m .made);
+        whole = λ e. rw (played e) (played-whole file (readOf file .m) 0 s);
       }

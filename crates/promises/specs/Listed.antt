@@ -74,13 +74,15 @@ firstRefusal place h (c ∷ cs) = refusalBy (numberIn true h c) place (firstRefu
 abbrev pub playedState : Play → State
 playedState p = record { book = p .book; log = p .log }
 
--- what playing a file that the reader takes gives on a book that calls have left
+-- what playing a file gives on a book that calls have left
 pub record Plays (file : Bytes) (s : State) (h : History) (play : Play) : Type 0 where
+  -- a file that the reader refuses changes nothing (RULES 7.4)
+  pub unread : (readNumber file ≡ 0 → ⊥) → play ≡ record { book = s .book; log = s .log; number = readNumber file; taken = 0 }
   -- the number and the place are those of the first refusal (RULES 6.7)
-  pub refusal : firstRefusal 0 h (linkCalls file) ≡ record { place = play .taken; number = play .number }
+  pub refusal : readNumber file ≡ 0 → firstRefusal 0 h (linkCalls file) ≡ record { place = play .taken; number = play .number }
   -- as many calls as were taken, one after the other; with number 0 those of all records (RULES 6.6)
-  pub calls : playedState play ≡ after ours s (take (play .taken) (linkCalls file))
-  pub whole : play .number ≡ 0 → playedState play ≡ after ours s (linkCalls file)
+  pub calls : readNumber file ≡ 0 → playedState play ≡ after ours s (take (play .taken) (linkCalls file))
+  pub whole : readNumber file ≡ 0 → play .number ≡ 0 → playedState play ≡ after ours s (linkCalls file)
 
 -- ---- groups
 
@@ -237,7 +239,7 @@ exampleText =
 -- ---- the demand
 
 pub record Listed : Type 0 where
-  pub plays : (file : Bytes) → readNumber file ≡ 0 → AfterCalls ours λ s h. Plays file s h (playOf file (s .book) (s .log))
+  pub plays : (file : Bytes) → AfterCalls ours λ s h. Plays file s h (playOf file (s .book) (s .log))
   pub groups : AfterCalls ours GroupsTold
   pub means : AfterCalls ours λ s h. (c : ℕ) → GroupMeans s h c
   pub prints : (file : Bytes) → Prints file
