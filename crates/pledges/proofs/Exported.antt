@@ -12,7 +12,23 @@ use denote.Ask.Run.{routine-mono}
 use denote.Triple.Clauses.{Lasts, atExit, lasts}
 use denote.Triple.Weaken.{weaken-under}
 use borrow.Fn.World.{World}
-use Rattle.pledges.specs.Exported.{Exported, Lifetimes, Given, Returned, Left, Claim, Result, Definition, contractAt, allows, Exactly, Pledged, SingleResult, CodeMeets, Gives}
+use Rattle.pledges.specs.Exported.{
+  Exported,
+  Lifetimes,
+  Given,
+  Returned,
+  Left,
+  Claim,
+  Result,
+  Definition,
+  contractAt,
+  allows,
+  Exactly,
+  Pledged,
+  SingleResult,
+  CodeMeets,
+  Gives,
+}
 
 module _ (f : Exported) (definition : Definition f) where
   abbrev AllExactly : Type 2

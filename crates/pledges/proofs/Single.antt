@@ -7,15 +7,45 @@ use mathlib.Core.List.{List, []}
 use Rattle.cells.specs.declared.Fitting.{Fitting}
 use Rattle.book_state.specs.declared.Book.{Book}
 use Rattle.book.specs.Calls.{Answer}
+use Rattle.book.specs.declared.fields.FieldsAnswer.{FieldsAnswer}
 use Rattle.buckets.proofs.Listing.{one-listing}
 use Rattle.forest_cross.proofs.Joined.{one-answer}
 use Rattle.pledges.specs.Pledges.{_▸_}
-use Rattle.pledges.specs.Single.{freshenFn, moveToFn, fieldsOpeningFn, fieldsLinkFn, fieldsLinkInOrderFn, fieldsClockFn, gatherFn, gatherNewestFn, bestTrailFn, chainOverFn, playOverFn, playFileFn, groupsOverFn, putWordFn, putFieldsFn, putLineFn, listFn, uniteFn, listEntriesFn, joinedAcrossFn, Single}
+use Rattle.pledges.specs.Single.{
+  freshenFn,
+  moveToFn,
+  fieldsOpeningFn,
+  fieldsLinkFn,
+  fieldsLinkInOrderFn,
+  fieldsClockFn,
+  gatherFn,
+  gatherNewestFn,
+  bestTrailFn,
+  chainOverFn,
+  playOverFn,
+  playFileFn,
+  groupsOverFn,
+  putWordFn,
+  putFieldsFn,
+  putLineFn,
+  listFn,
+  uniteFn,
+  listEntriesFn,
+  joinedAcrossFn,
+  Single,
+}
 use Rattle.pledges.proofs.Exported.{single-claim}
 
 -- two that equal a third
 equal : {A : Type 0} {x y z : A} → x ≡ z → y ≡ z → x ≡ y
 equal p q = p ∙ sym q
+
+-- the arrays of a book, each lent as it stands, and what was lent after them
+abbrev arrays : {X : Type 0} → Book → X → List ℕ × (List ℕ × (List ℕ × (List ℕ × (List ℕ × (List ℕ × X)))))
+arrays b rest = b .counts ▸ b .«forward_parent» ▸ b .«forward_size» ▸ b .«backward_parent» ▸ b .«backward_size» ▸ b .«backward_label» ▸ rest
+
+abbrev answerOf : Answer → FieldsAnswer
+answerOf o = record { clock = o .book .clock; fitting = o .book .fitting; number = o .number }
 
 pub single : Single
 single =
@@ -27,27 +57,19 @@ single =
       book-time-move-to = single-claim moveToFn (λ w κs a g r e. refl) λ κs a r s p q i.
           let none : Fitting = record { mounting = 0; pad = [] } in
           let b : Book = equal (p none) (q none) i in
-          b .clock ▸ tt ▸ b .counts ▸ b .«forward_parent» ▸ b .«forward_size» ▸ b .«backward_parent» ▸ b .«backward_size» ▸ b .«backward_label» ▸ tt ▸ tt ▸ tt;
+          b .clock ▸ tt ▸ arrays b (tt ▸ tt ▸ tt);
       book-fields-opening = single-claim fieldsOpeningFn (λ w κs a g r e. refl) λ κs a r s p q i.
           let o : Answer = equal (p .answered) (q .answered) i in
-          let b : Book = o .book in
-          record { clock = b .clock; fitting = b .fitting; number = o .number } ▸ tt ▸ tt ▸ b .counts ▸ b .«forward_parent» ▸ b .«forward_size»
-          ▸ b .«backward_parent» ▸ b .«backward_size» ▸ b .«backward_label» ▸ equal (p .logged) (q .logged) i ▸ tt ▸ tt;
+          answerOf o ▸ tt ▸ tt ▸ arrays (o .book) (equal (p .logged) (q .logged) i ▸ tt ▸ tt);
       book-fields-link = single-claim fieldsLinkFn (λ w κs a g r e. refl) λ κs a r s p q i.
           let o : Answer = equal (p .answered) (q .answered) i in
-          let b : Book = o .book in
-          record { clock = b .clock; fitting = b .fitting; number = o .number } ▸ tt ▸ tt ▸ b .counts ▸ b .«forward_parent» ▸ b .«forward_size»
-          ▸ b .«backward_parent» ▸ b .«backward_size» ▸ b .«backward_label» ▸ equal (p .logged) (q .logged) i ▸ tt ▸ tt ▸ tt ▸ tt;
+          answerOf o ▸ tt ▸ tt ▸ arrays (o .book) (equal (p .logged) (q .logged) i ▸ tt ▸ tt ▸ tt ▸ tt);
       book-fields-link-in-order = single-claim fieldsLinkInOrderFn (λ w κs a g r e. refl) λ κs a r s p q i.
           let o : Answer = equal (p .answered) (q .answered) i in
-          let b : Book = o .book in
-          record { clock = b .clock; fitting = b .fitting; number = o .number } ▸ tt ▸ tt ▸ b .counts ▸ b .«forward_parent» ▸ b .«forward_size»
-          ▸ b .«backward_parent» ▸ b .«backward_size» ▸ b .«backward_label» ▸ equal (p .logged) (q .logged) i ▸ tt ▸ tt ▸ tt ▸ tt;
+          answerOf o ▸ tt ▸ tt ▸ arrays (o .book) (equal (p .logged) (q .logged) i ▸ tt ▸ tt ▸ tt ▸ tt);
       book-fields-clock = single-claim fieldsClockFn (λ w κs a g r e. refl) λ κs a r s p q i.
           let o : Answer = equal (p .answered) (q .answered) i in
-          let b : Book = o .book in
-          record { clock = b .clock; fitting = b .fitting; number = o .number } ▸ tt ▸ tt ▸ b .counts ▸ b .«forward_parent» ▸ b .«forward_size»
-          ▸ b .«backward_parent» ▸ b .«backward_size» ▸ b .«backward_label» ▸ tt ▸ tt ▸ tt;
+          answerOf o ▸ tt ▸ tt ▸ arrays (o .book) (tt ▸ tt ▸ tt);
       window-gather = single-claim gatherFn (λ w κs a g r e. refl) λ κs a r s p q i.
           equal (p .until) (q .until) i ▸ tt ▸ tt ▸ tt ▸ equal (p .first) (q .first) i ▸ equal (p .second) (q .second) i ▸ equal (p .third) (q .third) i ▸ tt;
       window-gather-newest = single-claim gatherNewestFn (λ w κs a g r e. refl) λ κs a r s p q i.
@@ -58,12 +80,10 @@ single =
           equal (p .answered) (q .answered) i ▸ tt ▸ tt ▸ tt ▸ tt ▸ tt ▸ tt ▸ tt ▸ tt ▸ tt ▸ tt ▸ tt ▸ equal (p .written) (q .written) i ▸ tt;
       file-play-over-fields = single-claim playOverFn (λ w κs a g r e. refl) λ κs a r s p q i.
           let b : Book = equal (p .kept) (q .kept) i in
-          record { clock = b .clock; fitting = b .fitting; answer = equal (p .answered) (q .answered) i } ▸ tt ▸ tt ▸ b .counts ▸ b .«forward_parent»
-          ▸ b .«forward_size» ▸ b .«backward_parent» ▸ b .«backward_size» ▸ b .«backward_label» ▸ equal (p .logged) (q .logged) i ▸ tt ▸ tt ▸ tt;
+          record { clock = b .clock; fitting = b .fitting; answer = equal (p .answered) (q .answered) i } ▸ tt ▸ tt ▸ arrays b (equal (p .logged) (q .logged) i ▸ tt ▸ tt ▸ tt);
       file-play-play-file = single-claim playFileFn (λ w κs a g r e. refl) λ κs a r s p q i.
           let b : Book = equal (p .kept) (q .kept) i in
-          record { clock = b .clock; fitting = b .fitting; answer = equal (p .answered) (q .answered) i } ▸ tt ▸ tt ▸ b .counts ▸ b .«forward_parent»
-          ▸ b .«forward_size» ▸ b .«backward_parent» ▸ b .«backward_size» ▸ b .«backward_label» ▸ equal (p .logged) (q .logged) i ▸ tt ▸ tt;
+          record { clock = b .clock; fitting = b .fitting; answer = equal (p .answered) (q .answered) i } ▸ tt ▸ tt ▸ arrays b (equal (p .logged) (q .logged) i ▸ tt ▸ tt);
       window-groups-over-fields = single-claim groupsOverFn (λ w κs a g r e. refl) λ κs a r s p q i.
           equal (p .answered) (q .answered) i ▸ tt ▸ tt ▸ tt ▸ tt ▸ tt ▸ tt ▸ tt ▸ tt ▸ tt ▸ equal (p .firsts) (q .firsts) i
           ▸ equal (p .sizes) (q .sizes) i ▸ equal (p .holds) (q .holds) i ▸ tt;

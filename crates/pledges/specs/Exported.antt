@@ -1,4 +1,4 @@
--- An exported function as the kit hands it out, and what it is for its contract to give what a definition says. The form is the same for
+-- A function as the kit hands it out, and what it is for its contract to give what a definition says. The form is the same for
 -- all functions, whatever they take and give, so it is said once, and so are its consequences (proofs/Exported).
 --
 -- A function's result, to a caller, is what it returns and what the memory that was lent to it holds afterwards. The kit calls the
@@ -30,7 +30,7 @@ RoutineMeets T ρ c =
     (M : Type 1) (𝓤 : URA M) (H : Heap 𝓤) (𝓜 : Model 𝓤 H) (𝓖 : GhostRules 𝓤 H) (𝓡 : Running 𝓤 H 𝓜) →
     Meets 𝓤 H (𝓖 .A) (T .signature) (𝓡 .run ρ) (closing 𝓤 H (𝓖 .A) T (c M 𝓤 H (𝓖 .A) (𝓜 .mem) (𝓡 .run)))
 
--- a function: its signature, its contract, its code, and the theorem that the code meets the contract
+-- a function, exported from the library or from a crate: its signature, its contract, its code, and the theorem that the code meets the contract
 pub record Exported : Type 3 where
   pub ended : Ended
   pub clauses : ClausesOf ended

@@ -2,20 +2,19 @@
 -- Each closing takes the links of one slide away, so the window at k + c has the links of slides k + c + 1 - n to k.
 use Prim.Native.Nat.{ℕ, _+_, _≤_, _<_}
 use mathlib.Core.Path.{_≡_, ap, ap₂}
-use mathlib.Core.Bool.{Bool, true, false, cond, _&&_, and-eq-true-iff}
-use mathlib.Core.List.{List, _∷_}
+use mathlib.Core.Bool.{true, _&&_, and-eq-true-iff}
+use mathlib.Core.List.{List}
 use mathlib.Core.Logic.{_↔_}
 use native.Mathlib.Omega.{arith}
 use native.Mathlib.Nat.{add-zero}
 use lib.Dec.{leb}
 use borrow.Author.Tests.{le-leb, lt-ltb, ltb-true, leb-true}
-use Rattle.graph.specs.Link.{Link, Linked, along, against, here, there}
+use Rattle.graph.specs.Link.{Link}
 use Rattle.graph.proofs.Chains.{Relinks}
 use Rattle.slides.specs.Clock.{notBefore, slideOf}
 use Rattle.slides.proofs.Slides.{moved-n, moved-slide}
-use Rattle.book_state.specs.Arrays.{cells}
-use Rattle.promises.specs.History.{Stored, History, openSlideIn, ofSlides, withTime, linksOf, inWindow, windowAt, windowOf, linksSince}
-use Rattle.promises.specs.Agrees.{Falling, next, Sensible}
+use Rattle.promises.specs.History.{History, openSlideIn, ofSlides, withTime, linksOf, inWindow, windowAt, windowOf, linksSince}
+use Rattle.promises.specs.Agrees.{Sensible}
 use Rattle.promises.proofs.Lists.{same-test, same-slides}
 use Rattle.promises.proofs.BySlide.{of-slide, in-slide}
 

@@ -100,7 +100,9 @@ files-refused =
       read = refused-read;
       write = refused-write;
       play = λ file m b log failed. stopped file m 0 b log failed;
-      unread = λ file b log failed. rw (← (read-gives file)) (unread-kept (readOf file .number) file (readOf file .m) b log (λ e. failed (sym (read-gives file) ∙ e)));
+      unread = λ file b log failed.
+          rw (← (read-gives file))
+          (unread-kept (readOf file .number) file (readOf file .m) b log (λ e. failed (sym (read-gives file) ∙ e)));
       pack = λ tick one other out failed. pack-kept (leb 8 (length out)) (atFront (recordBytes tick one other) out) out failed;
       unpack = λ records i failed. unpack-kept _ records i failed;
       groups = λ b log first size hold failed. groups-kept _ _ first size hold failed;

@@ -17,8 +17,21 @@ use Rattle.promises.proofs.Table.{table}
 pub kept : Kept
 kept =
     record {
-      demand-1 = record { ends = pledges; refuses = code-refuses; refused = refused; files-refused = files-refused; never-opened = never-opened };
-      demand-2 = record { joined = joined; code-joined = code-joined; files = record { there = written-then-read; back = read-then-written }; code-files = code-files };
+      demand-1 =
+          record {
+            ends = pledges;
+            refuses = code-refuses;
+            refused = refused;
+            files-refused = files-refused;
+            never-opened = never-opened;
+          };
+      demand-2 =
+          record {
+            joined = joined;
+            code-joined = code-joined;
+            files = record { there = written-then-read; back = read-then-written };
+            code-files = code-files;
+          };
       demand-3 = record { chain = chain; code-chain = code-chain };
       table = table;
       code-table = code-table;

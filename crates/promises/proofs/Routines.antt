@@ -2,7 +2,7 @@
 -- and is proved of the definitions in the other files. A book and a log that calls have left agree with the history (Keeps), and what is
 -- demanded of them is what is proved of such a state.
 use Prim.Native.Nat.{ℕ}
-use mathlib.Core.Path.{_≡_, refl, sym, ap, _∙_, subst, subst⁻¹}
+use mathlib.Core.Path.{_≡_, refl, ap, _∙_, subst, subst⁻¹}
 use mathlib.Core.Bool.{Bool, true, false}
 use mathlib.Core.List.{List}
 use native.Mathlib.Omega.{arith}
@@ -12,7 +12,6 @@ use Rattle.numbers.specs.Checks.{unless}
 use Rattle.numbers.specs.Front.{atFront}
 use Rattle.book_state.specs.declared.Book.{Book}
 use Rattle.book_state.specs.Order.{inOrder}
-use Rattle.window_groups.specs.declared.Groups.{Groups}
 use Rattle.window_groups.specs.Groups.{groupsOf}
 use Rattle.window_groups.specs.Call.{groupsNumberIn, groupsByNumber, groupsGiven}
 use Rattle.file.specs.Format.{readNumber, readOf}
