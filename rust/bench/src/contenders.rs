@@ -42,7 +42,7 @@ pub const METHODS: [(&str, &str); 5] = [
     ),
     (
         Kind::ChunkEnd.name(),
-        "scratch parents beside the forest, shortened as they go, find the roots",
+        "scratch parents beside the forest, shortened as they go, find the roots; the forest gets its step",
     ),
     (
         Kind::Joined.name(),
@@ -50,7 +50,7 @@ pub const METHODS: [(&str, &str); 5] = [
     ),
     (
         Kind::Chain.name(),
-        "links united newest first until the two meet; then a search by levels over the links from L on, up to the first cell",
+        "links united newest first, slide by slide, until the two meet; then a search by levels over the links from L on, up to the first cell",
     ),
     (
         "kerblist",
