@@ -99,5 +99,6 @@ single =
           tt ▸ equal (p .parents) (q .parents) i ▸ equal (p .sizes) (q .sizes) i ▸ equal (p .labels) (q .labels) i ▸ tt ▸ tt ▸ tt ▸ tt ▸ tt;
       buckets-list-entries = single-claim listEntriesFn (λ w κs a g r e. refl) λ κs a r s p q i.
           let e = one-listing p q in tt ▸ tt ▸ e .0 i ▸ e .1 i ▸ tt;
-      forest-cross-joined-across = single-claim joinedAcrossFn (λ w κs a g r e. refl) λ κs a r s p q i. one-answer (r .0) (s .0) p q i ▸ tt ▸ tt ▸ tt ▸ tt ▸ tt;
+      forest-cross-joined-across = single-claim joinedAcrossFn (λ w κs a g r e. refl) λ κs a r s p q i.
+          one-answer (r .0) (s .0) p q i ▸ tt ▸ tt ▸ tt ▸ tt ▸ tt ▸ tt ▸ tt ▸ tt;
     }
