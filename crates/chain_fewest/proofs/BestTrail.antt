@@ -18,7 +18,7 @@ use Rattle.chain_fewest.specs.Levels.{Counted, Blank}
 use Rattle.chain_fewest.specs.Descent.{DescentReady}
 use Rattle.chain_fewest.specs.Best.{TrailAskable, TrailGiven}
 
--- so many places of the array for the links
+-- as many places of the array as there are links
 pub places-long : (links : ℕ) → links ≤ 4096 → length {A = ℕ} (take links (replicate 4096 0)) ≡ links
 places-long links few = length-take-le links (replicate 4096 0) (rw length-replicate few)
 

@@ -1,7 +1,7 @@
 -- A walk at a cut (the paper's Lemma 5.6): where labels never rise from link to link, the forest of all links, with the
 -- steps below the cut taken away, is the forest of the links that are not below the cut.
 --
--- Links below the cut come last. Each hangs a root, if anything, and the cut takes that step away again. Of the links
+-- Links below the cut come last. Each puts a root under another, if anything, and the cut takes that step away again. Of the links
 -- before them none is below the cut, and so no step is, since a step has the label of a link.
 use Prim.Native.Nat.{ℕ, _^_, _≤_, _<_, zero-le}
 use mathlib.Core.Path.{_≡_, refl, sym, _∙_, ap, fun-ext}
@@ -17,7 +17,7 @@ use Rattle.graph.specs.Forest.{Forest, fresh, climb, walk, parentAt, wal
 use Rattle.graph.specs.Forest.{Each, empty, also, EndsBelow, NeverRise, start, lowest}
 use Rattle.graph.proofs.Walks.{put-here, put-other}
 use Rattle.graph.proofs.Sizes.{Merges}
-use Rattle.graph.proofs.Forests.{United, kept, hangs, united, grown, same-root, walk-ends, walk-short}
+use Rattle.graph.proofs.Forests.{United, kept, merges, united, grown, same-root, walk-ends, walk-short}
 
 pub each-map : {P Q : Labelled → Type 0} {xs : List Labelled} → ((x : Labelled) → P x → Q x) → Each P xs → Each Q xs
 each-map f empty = empty
@@ -57,7 +57,7 @@ merged-step {P} {f} {child} {top} label h p c s = go (ℕ-discrete c child) s
 united-step : {P : ℕ → Type 0} {k limit : ℕ} {f f′ : Forest} {x : Labelled} → United k limit f x f′ → P (x .label) →
     ((c : ℕ) → Step P f c) → (c : ℕ) → Step P f′ c
 united-step (kept _) p on c = on c
-united-step {x} (hangs _ h) p on c = merged-step (x .label) h p c (on c)
+united-step {x} (merges _ h) p on c = merged-step (x .label) h p c (on c)
 
 pub cond-same : (t : Bool) (c : ℕ) → cond t c c ≡ c
 cond-same true c = refl
@@ -75,7 +75,7 @@ uncut f cut c (goes _ p) = rw (le-ltb (f .label c) cut p)
 united-cut : {k limit : ℕ} {f f′ : Forest} {x : Labelled} → United k limit f x f′ → (cut : ℕ) → x .label < cut →
     (c : ℕ) → parentAt f′ cut c ≡ parentAt f cut c
 united-cut (kept _) cut l c = refl
-united-cut {f} {x} (hangs {child} {top} _ h) cut l c = go (ℕ-discrete c child)
+united-cut {f} {x} (merges {child} {top} _ h) cut l c = go (ℕ-discrete c child)
   where
     go : Dec (c ≡ child) → parentAt (merged f (x .label) child top) cut c ≡ parentAt f cut c
     go (yes e) = simp (eq-eqb c child e, lt-ltb (x .label) cut l) (sym (root-at f cut c (rw e (h .under .stays))))

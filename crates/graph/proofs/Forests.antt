@@ -1,7 +1,7 @@
 -- The forest of a list of links: its walks end at roots, and two cells have one root exactly when links chain them.
 --
 -- Where all ends are below 2 ^ k and walks may take k steps, a link either finds its ends under one root and changes
--- nothing, or hangs the root of one under that of the other, which is as large or larger (`United`). Over that each law
+-- nothing, or puts the root of one under that of the other, which is as large or larger (`United`). Over that each law
 -- is an induction: the forest is `Grown`, each cell is chained with its root, and the ends of each link have one root.
 use Prim.Native.Nat.{ℕ, _*_, _^_, _≤_, _<_, zero-le}
 use mathlib.Core.Path.{_≡_, refl, sym, _∙_, ap}
@@ -27,7 +27,7 @@ rootsOf limit f x = record { one = walk limit f (x .link .one) .root; other = wa
 -- what one link more makes of a forest
 pub data United (k limit : ℕ) (f : Forest) (x : Labelled) : Forest → Type 0 where
   kept : rootsOf limit f x .one ≡ rootsOf limit f x .other → United k limit f x f
-  hangs : {child top : ℕ} → Between child top (rootsOf limit f x) → Merges k f child top →
+  merges : {child top : ℕ} → Between child top (rootsOf limit f x) → Merges k f child top →
       United k limit f x (merged f (x .label) child top)
 
 -- of two roots, the one that goes under the other has a tree that is smaller, or as large
@@ -84,18 +84,18 @@ module _ {k limit : ℕ} (enough : k ≤ limit) where
       b : ℕ
       b = rootsOf limit f x .other
 
-      hang : (t : Bool) → ¬ (a ≡ b) → goesUnder (f .size) a b ≡ t →
+      apart : (t : Bool) → ¬ (a ≡ b) → goesUnder (f .size) a b ≡ t →
           United k limit f x (cond t (merged f (x .label) a b) (merged f (x .label) b a))
-      hang true n e =
-          hangs (along refl refl)
+      apart true n e =
+          merges (along refl refl)
           (record {
             under = root _ (ends .0);
             over = root _ (ends .1);
             apart = n;
             lighter = under-le (f .size) a b e;
           })
-      hang false n e =
-          hangs (against refl refl)
+      apart false n e =
+          merges (against refl refl)
           (record {
             under = root _ (ends .1);
             over = root _ (ends .0);
@@ -105,12 +105,12 @@ module _ {k limit : ℕ} (enough : k ≤ limit) where
 
       go : Dec (a ≡ b) → United k limit f x (joinRoots f (x .label) a b)
       go (yes e) = rw (eq-eqb a b e) (kept e)
-      go (no n) = rw (ne-eqb a b n) (hang (goesUnder (f .size) a b) n refl)
+      go (no n) = rw (ne-eqb a b n) (apart (goesUnder (f .size) a b) n refl)
 
   -- one link more keeps any forest grown, whatever made it
   pub united-grown : {f f′ : Forest} {x : Labelled} → Grown k f → United k limit f x f′ → Grown k f′
   united-grown g (kept _) = g
-  united-grown {x} g (hangs _ h) = merged-grown g h (x .label)
+  united-grown {x} g (merges _ h) = merged-grown g h (x .label)
 
   pub grown : {xs : List Labelled} → EndsBelow (2 ^ k) xs → Grown k (forestOf limit xs)
   unfolding forestOf
@@ -129,7 +129,7 @@ module _ {k limit : ℕ} (enough : k ≤ limit) where
   united-chained : {f f′ : Forest} {x : Labelled} {ls : List Link} → Grown k f → United k limit f x f′ →
       ((c : ℕ) → Chained ls c (walk limit f c .root)) → (c : ℕ) → Chained (x .link ∷ ls) c (walk limit f′ c .root)
   united-chained g (kept _) on c = chained-there _ (on c)
-  united-chained {f} {x} {ls} g (hangs {child} {top} b h) on c =
+  united-chained {f} {x} {ls} g (merges {child} {top} b h) on c =
       rw (merged-root g h (x .label) c)
       (put-cases (Chained (x .link ∷ ls) c) child top (λ r. r) _
       (λ e. chained-trans (rw e at before) (between-chained b roots)) (λ _. before))
@@ -146,13 +146,13 @@ module _ {k limit : ℕ} (enough : k ≤ limit) where
   united-same : {f f′ : Forest} {x : Labelled} → Grown k f → United k limit f x f′ → (a b : ℕ) →
       walk limit f a .root ≡ walk limit f b .root → walk limit f′ a .root ≡ walk limit f′ b .root
   united-same g (kept _) a b e = e
-  united-same {x} g (hangs {child} {top} _ h) a b e =
+  united-same {x} g (merges {child} {top} _ h) a b e =
       merged-root g h (x .label) a ∙ ap (put child top (λ r. r)) e ∙ sym (merged-root g h (x .label) b)
 
   united-ends : {f f′ : Forest} {x : Labelled} → Grown k f → United k limit f x f′ →
       rootsOf limit f′ x .one ≡ rootsOf limit f′ x .other
   united-ends g (kept e) = e
-  united-ends {x} g (hangs b h) =
+  united-ends {x} g (merges b h) =
       merged-root g h (x .label) _ ∙ between-meet (h .apart) b ∙ sym (merged-root g h (x .label) _)
 
   united-linked : {f f′ : Forest} {x : Labelled} {ls : List Link} → Grown k f → United k limit f x f′ →

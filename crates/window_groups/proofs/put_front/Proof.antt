@@ -1,4 +1,4 @@
--- `window_groups::put_front` meets its contract: after so many turns, the first so many numbers stand at the front.
+-- `window_groups::put_front` meets its contract: after i turns, the first i numbers stand at the front.
 use Prim.Native.Nat.{ℕ, zero, suc, _+_, _-_, _≤_, _<_}
 use mathlib.Core.Path.{_≡_, refl, sym, ap, _∙_}
 use mathlib.Core.List.{List, [], _∷_, _++_}
