@@ -2,7 +2,7 @@
 --
 -- The clock and the mounting of a history are in range. The lists hold forests of links between cells, with places as labels; the
 -- crate graph has the laws on the ranges and walks of such forests.
-use Prim.Native.Nat.{ℕ, _%_, _≤_}
+use Prim.Native.Nat.{_%_, _≤_}
 use mathlib.Core.Path.{_≡_, ap}
 use mathlib.Core.Bool.{true}
 use native.Mathlib.Omega.{arith}
