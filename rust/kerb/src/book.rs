@@ -9,7 +9,7 @@ use alloc::vec::Vec;
 /// A book and the log that belongs to it: they cannot be mismatched, and none is without a mounting.
 ///
 /// Cells of links are in the unit's numbers, cells of questions in the lorry's. A call gives `Ok` with its result, or `Err` with
-/// the refusal, and then nothing has changed. What a call takes of the stack is the calling thread's: 165 KB at most.
+/// the refusal, and then nothing has changed. What a call takes of the stack is the calling thread's: 128 KB at most.
 ///
 /// ```
 /// use kerb::{Book, LorryCell, Mounting, Refusal, Settings, UnitCell};

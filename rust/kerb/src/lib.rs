@@ -5,7 +5,7 @@
 //! - a call gives `Ok` with its result, or `Err` with the [`Refusal`], and then the book and all lent places are as they were;
 //! - [`calls`] has the same calls as the library gives their answers, number and all.
 //!
-//! What the wrapper leaves to its caller: the stack, of which a call takes up to 165 KB of the calling thread's (`docs/BENCH.md`
+//! What the wrapper leaves to its caller: the stack, of which a call takes up to 128 KB of the calling thread's (`docs/BENCH.md`
 //! has each call's), and to keep a `RawBook` and its log together.
 //!
 //! ```
