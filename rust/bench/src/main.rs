@@ -10,6 +10,7 @@ mod contenders;
 mod library;
 mod listings;
 mod machine;
+mod neighbours;
 mod peer;
 mod report;
 mod scenes;

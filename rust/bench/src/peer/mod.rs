@@ -11,11 +11,11 @@ mod time;
 mod trail;
 
 use crate::any_book::{chain_refused, joined_refused, AnyBook};
+use crate::neighbours::Neighbours;
 use forest::{every, Forest, Labelled, CELLS};
 use kerb::calls::{ChainAnswer, Clock, JoinedAnswer};
 use kerb::{Settings, CHAIN_PLACES, LOG_PLACES};
 pub use listing::list;
-use trail::write_chain;
 
 /// Places of a chunk's half in the counts and in the log, and links of a place.
 const PLACES: usize = 16;
@@ -169,7 +169,7 @@ impl<const CHECKED: bool, const BY_UNIONS: bool> AnyBook for Peer<CHECKED, BY_UN
             None => chain_refused(7),
             Some((newest, links)) => ChainAnswer {
                 newest,
-                cells: write_chain(&links, one, other, lent),
+                cells: Neighbours::by(&links).write_chain(one, other, lent),
                 hold: (newest + u64::from(self.clock.n) - 1 - self.open_slide()) as u8,
                 number: 0,
             },
