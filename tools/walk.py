@@ -860,53 +860,53 @@ ZS = ' '.join(f'z-{dash(f)}' for f in ARRAYS)
 
 SPECS = {
     'kerb_open_slide': dict(
-        crate='kerb_ask', fn='kerb_open_slide', struct=BOOK, ref='shr', callee=('slides', 'open_slide'), params=[], args=[('load', 'clock')], lifetimes=[], answer='u64',
+        crate='kerb_slides', fn='kerb_open_slide', struct=BOOK, ref='shr', callee=('slides', 'open_slide'), params=[], args=[('load', 'clock')], lifetimes=[], answer='u64',
         uses=['use Rattle.slides.specs.Clock.{openSlide}'], ensured='r ≡ openSlide (h .clock)', says='e'),
     'kerb_slide_ticks': dict(
-        crate='kerb_ask', fn='kerb_slide_ticks', struct=BOOK, ref='shr', callee=('slides', 'ticks'), params=[('num', 'slide', 'u64')], args=[('load', 'clock'), ('num', 'slide')], lifetimes=[],
+        crate='kerb_slides', fn='kerb_slide_ticks', struct=BOOK, ref='shr', callee=('slides', 'ticks'), params=[('num', 'slide', 'u64')], args=[('load', 'clock'), ('num', 'slide')], lifetimes=[],
         answer=('struct', SLIDE_TICKS), uses=['use Rattle.slides.specs.Clock.{ticksOf}'], ensured='r ≡ ticksOf (h .clock) slide', says='e'),
     'kerb_link': dict(
-        crate='kerb_change', fn='kerb_link', struct=BOOK, ref='mut', callee=('book', 'fields.link'),
+        crate='kerb_link', fn='kerb_link', struct=BOOK, ref='mut', callee=('book', 'fields.link'),
         params=[('slice-mut', 'log', 'u16'), ('num', 'tick', 'u32'), ('num', 'one', 'u16'), ('num', 'other', 'u16')],
         args=FIELDS + [('slice', 'log'), ('num', 'tick'), ('num', 'one'), ('num', 'other')], lifetimes=EACH + [('param', 'log')],
         answer=('struct', FIELDS_ANSWER), stores=[('clock', 'clock'), ('fitting', 'fitting')], returns='number',
         uses=['use Rattle.book.specs.Calls.{GivesFields, linkOf}'],
         ensured=f'GivesFields (linkOf h l-log tick one other) r {ZS} z-log', says='e'),
     'kerb_clock': dict(
-        crate='kerb_change', fn='kerb_clock', struct=BOOK, ref='mut', callee=('book', 'fields.clock'),
+        crate='kerb_clock', fn='kerb_clock', struct=BOOK, ref='mut', callee=('book', 'fields.clock'),
         params=[('slice-shr', 'log', 'u16'), ('num', 'tick', 'u32')],
         args=FIELDS + [('slice', 'log'), ('num', 'tick')], lifetimes=EACH + [('param', 'log')],
         answer=('struct', FIELDS_ANSWER), stores=[('clock', 'clock'), ('fitting', 'fitting')], returns='number',
         uses=['use Rattle.book.specs.Calls.{GivesFields, clockOf}'],
         ensured=f'GivesFields (clockOf h l-log tick) r {ZS} l-log', says='e'),
     'kerb_opening': dict(
-        crate='kerb_change', fn='kerb_opening', struct=BOOK, ref='mut', callee=('book', 'fields.opening'),
+        crate='kerb_opening', fn='kerb_opening', struct=BOOK, ref='mut', callee=('book', 'fields.opening'),
         params=[('slice-mut', 'log', 'u16'), ('num', 's', ('struct', SETTINGS))],
         args=FIELDS + [('slice', 'log'), ('num', 's')], lifetimes=EACH + [('param', 'log')],
         answer=('struct', FIELDS_ANSWER), stores=[('clock', 'clock'), ('fitting', 'fitting')], returns='number',
         uses=['use Rattle.book.specs.Calls.{GivesFields, openingOf}'],
         ensured=f'GivesFields (openingOf h l-log s) r {ZS} z-log', says='e'),
     'kerb_play': dict(
-        crate='kerb_change', fn='kerb_play', struct=BOOK, ref='mut', callee=('file_play', 'play_file'),
+        crate='kerb_play', fn='kerb_play', struct=BOOK, ref='mut', callee=('file_play', 'play_file'),
         params=[('slice-mut', 'log', 'u16'), ('slice-shr', 'file', 'u8')],
         args=FIELDS + [('slice', 'log'), ('slice', 'file')], lifetimes=EACH + [('param', 'log'), ('param', 'file')],
         answer=('struct', PLAYED_FIELDS), stores=[('clock', 'clock'), ('fitting', 'fitting')], returns='answer',
         uses=['use Rattle.file_play.specs.Play.{GivesPlayFields, playOf}'],
         ensured=f'GivesPlayFields (playOf l-file h l-log) r {ZS} z-log', says='e'),
     'kerb_joined': dict(
-        crate='kerb_ask', fn='kerb_joined', struct=BOOK, ref='shr', callee=('book_joined', 'over_fields'),
+        crate='kerb_joined', fn='kerb_joined', struct=BOOK, ref='shr', callee=('book_joined', 'over_fields'),
         params=[('num', 'one', 'u16'), ('num', 'other', 'u16')],
         args=FIELDS + [('num', 'one'), ('num', 'other')], lifetimes=ONE, answer=('struct', JOINED_ANSWER),
         uses=['use Rattle.book_joined.specs.Joined.{joinedOf}'], ensured='r ≡ joinedOf h one other', says='e'),
     'kerb_chain': dict(
-        crate='kerb_ask', fn='kerb_chain', struct=BOOK, ref='shr', callee=('chain', 'over_fields'),
+        crate='kerb_chain', fn='kerb_chain', struct=BOOK, ref='shr', callee=('chain', 'over_fields'),
         params=[('slice-shr', 'log', 'u16'), ('num', 'one', 'u16'), ('num', 'other', 'u16'), ('slice-mut', 'chain', 'u16')],
         args=FIELDS + [('slice', 'log'), ('num', 'one'), ('num', 'other'), ('slice', 'chain')],
         lifetimes=ONE + [('param', 'log'), ('param', 'chain')], answer=('struct', CHAIN_ANSWER),
         uses=['use Rattle.chain.specs.Chain.{chainOf, GivesChain}'],
         ensured='GivesChain (chainOf h l-log l-chain one other) r z-chain', says='e'),
     'kerb_groups': dict(
-        crate='kerb_ask', fn='kerb_groups', struct=BOOK, ref='shr', callee=('window_groups', 'over_fields'),
+        crate='kerb_groups', fn='kerb_groups', struct=BOOK, ref='shr', callee=('window_groups', 'over_fields'),
         params=[('slice-shr', 'log', 'u16'), ('slice-mut', 'first', 'u16'), ('slice-mut', 'size', 'u16'), ('slice-mut', 'hold', 'u8')],
         args=FIELDS + [('slice', 'log'), ('slice', 'first'), ('slice', 'size'), ('slice', 'hold')],
         lifetimes=ONE + [('param', 'log'), ('param', 'first'), ('param', 'size'), ('param', 'hold')], answer=('struct', GROUPS_ANSWER),

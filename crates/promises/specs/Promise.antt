@@ -3,7 +3,7 @@
 -- There are three layers, each with its own words, and two relations between them.
 --     history        what the calls say happened: links with their slides, the clock, and the table of numbers (History)
 --     definitions    what each call makes of a book, its log and whatever is lent, for every input: `ours` (Implementation)
---     code           the exported routines, as the machine runs them (the crates kerb, kerb_change, kerb_ask, kerb_file)
+--     code           the exported routines, as the machine runs them (the crates kerb, kerb_file, and one for each call over a book)
 -- The state that calls leave agrees with the history (Agrees), and the code gives what the definitions say (Pledges, of the crate
 -- pledges). A demand is stated of the definitions, over any implementation, so that fakes can be held against it (Demands, Fakes); and of
 -- the code itself (Routines).
