@@ -4,7 +4,6 @@ use book_state::STEP_LIMIT;
 use book_state::order;
 use cells::Fitting;
 use forest::PLACES;
-use forest::walks;
 use slides::Clock;
 ghost use mathlib.Core.Path.{_≡_};
 ghost use mathlib.Core.Bool.{false, cond, not, _&&_};
@@ -104,10 +103,10 @@ fn answer<'a>(
     requires { ⌜ Askable (now backward) (now label) (now forward) cut one other ⌝ }
     ensures { λ r. ⌜ r ≡ answerOf cut (now (backward .entry)) (now (label .entry)) (now (forward .entry)) one other ⌝ }
 {
-    let backward_one = walks::walk_at(backward, label, STEP_LIMIT, cut, one);
-    let backward_other = walks::walk_at(backward, label, STEP_LIMIT, cut, other);
-    let forward_one = walks::walk(forward, STEP_LIMIT, one);
-    let forward_other = walks::walk(forward, STEP_LIMIT, other);
+    let backward_one = forest_walk::walk_at(backward, label, STEP_LIMIT, cut, one);
+    let backward_other = forest_walk::walk_at(backward, label, STEP_LIMIT, cut, other);
+    let forward_one = forest_walk::walk(forward, STEP_LIMIT, one);
+    let forward_other = forest_walk::walk(forward, STEP_LIMIT, other);
     let backward_steps = backward_one.steps + backward_other.steps;
     let steps = backward_steps + forward_one.steps + forward_other.steps;
     if backward_one.root == backward_other.root {
@@ -177,7 +176,7 @@ fn alone<'a>(backward: &'a [u16], label: &'a [u8], forward: &'a [u16], cut: u8, 
 fn goes<'a>(parent: &'a [u16], label: &'a [u8], cut: u8, cell: u16) -> bool
     ensures { λ r. ⌜ r ≡ not (eqb (parentAtIn (now (parent .entry)) (now (label .entry)) cut cell) cell) ⌝ }
 {
-    let step = walks::walk_at(parent, label, 1, cut, cell);
+    let step = forest_walk::walk_at(parent, label, 1, cut, cell);
     step.root != cell
 }
 

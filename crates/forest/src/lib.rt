@@ -1,7 +1,5 @@
 // The labelled forest of RULES 3 in arrays: parents, sizes and labels of cells, each an array of its own.
-// Functions that read take slices, and are total: a cell beyond a slice is its own root, of size 1, with label 0.
-pub mod walks; // walks.rt: the root and the steps of a cell, without a cut and at a cut
-
+// What reads them takes slices: a cell beyond a slice is its own root, of size 1, with label 0.
 ghost use mathlib.Core.Path.{_≡_};
 ghost use Rattle.forest.specs.Arrays.{places, freshParents, freshSizes, freshLabels};
 

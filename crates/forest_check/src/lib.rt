@@ -5,7 +5,7 @@
 // A pass keeps a flag, or the least and the greatest so far, in the width of the entries, and goes on, with no way out: so a
 // machine can do several entries at a time.
 use forest::PLACES;
-use forest::walks::root;
+use forest_walk::root;
 ghost use mathlib.Core.Path.{_≡_};
 ghost use mathlib.Core.Bool.{cond, _&&_};
 ghost use Prim.Native.Nat.{_-_, _*_, _^_, _≤_, _<_};

@@ -4,8 +4,8 @@
 use buckets::entry_at;
 use forest::PLACES;
 use forest::fresh_parents;
-use forest::walks::root_inside;
-use forest::walks::up_inside;
+use forest_walk::root_inside;
+use forest_walk::up_inside;
 ghost use Prim.Native.Nat.{_<_};
 ghost use lib.ListN.{length};
 ghost use Rattle.forest.specs.Arrays.{places, freshLabels, rootsOf, rootsAtOf};

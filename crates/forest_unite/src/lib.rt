@@ -56,8 +56,8 @@ pub fn unite(
     ensures { λ _. ⌜ United (now (parent .entry)) (now (size .entry)) (now (label .entry)) limit one other place
         (now (parent .exit)) (now (size .exit)) (now (label .exit)) ⌝ }
 {
-    let a = forest::walks::root(parent, limit, one);
-    let b = forest::walks::root(parent, limit, other);
+    let a = forest_walk::root(parent, limit, one);
+    let b = forest_walk::root(parent, limit, other);
     // Most links of a full window find their ends joined already.
     if a == b {
         return;

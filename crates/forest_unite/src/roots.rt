@@ -4,7 +4,7 @@ ghost use Rattle.graph.specs.Forest.{goesUnder};
 ghost use Rattle.forest.specs.Arrays.{sizeIn};
 ghost use Rattle.forest_unite.specs.United.{under, mergeOfRoots, mergeOf};
 use super::Merge;
-use forest::walks::root;
+use forest_walk::root;
 
 // What a link of the two cells does to the forest.
 pub fn merge_of<'a>(parent: &'a [u16], size: &'a [u16], limit: u8, one: u16, other: u16) -> Merge

@@ -1,14 +1,14 @@
--- `forest::walks::root_inside` meets its contract: the root where the loop of a walk ends (proofs/Climb.antt), by the parents at the
+-- `forest_walk::root_inside` meets its contract: the root where the loop of a walk ends (`Climb` of forest), by the parents at the
 -- cut; and the walk stays among the cells, which is what each step asks.
 use Prim.Native.Nat.{_-_, _<_}
 use mathlib.Core.Path.{ap}
 use native.Mathlib.Omega.{arith}
 use lib.ListN.{length}
 use Rattle.forest.specs.Arrays.{parentAtIn, ParentsAreCells}
 use Rattle.forest.proofs.Climb.{Reached, begins, stays, goes, ended}
 use Rattle.forest.proofs.Ranged.{cut-inside}
-use Rattle.forest.proofs.walks.root_inside.Statement.{statement}
-use Rattle.forest.proofs.walks.root_inside.Tie as tie
+use Rattle.forest_walk.proofs.root_inside.Statement.{statement}
+use Rattle.forest_walk.proofs.root_inside.Tie as tie
 
 abbrev Inv-loop : tie.InvT-loop
 Inv-loop parent label limit cut cell at₀ steps₀ at steps =

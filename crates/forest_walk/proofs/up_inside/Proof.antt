@@ -1,4 +1,4 @@
--- `forest::walks::up_inside` meets its contract: a root stays at any cut, and elsewhere the label decides the definition's case. Within the
+-- `forest_walk::up_inside` meets its contract: a root stays at any cut, and elsewhere the label decides the definition's case. Within the
 -- slice the default of a read does not matter.
 use borrow.Author.Needs.{needs}
 use Prim.Native.Nat.{ℕ, _<_}
@@ -8,10 +8,10 @@ use mathlib.Core.List.{List}
 use borrow.Author.Tests.{lt-ltb, le-ltb}
 use lib.Dec.{ltb}
 use lib.ListN.{length, getD}
 use Rattle.forest.specs.Arrays.{labelIn, parentAtIn}
 use Rattle.forest.proofs.Fill.{getD-within}
-use Rattle.forest.proofs.walks.up_inside.Statement.{statement}
-use Rattle.forest.proofs.walks.up_inside.Tie as tie
+use Rattle.forest_walk.proofs.up_inside.Statement.{statement}
+use Rattle.forest_walk.proofs.up_inside.Tie as tie
 
 stays-anyway : (t : Bool) (c : ℕ) → c ≡ cond t c c
 stays-anyway true c = refl

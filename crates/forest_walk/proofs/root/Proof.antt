@@ -1,11 +1,11 @@
--- `forest::walks::root` meets its contract: the root where the loop of a walk ends (proofs/Climb.antt), by the parents.
+-- `forest_walk::root` meets its contract: the root where the loop of a walk ends (`Climb` of forest), by the parents.
 use Prim.Native.Nat.{_-_}
 use mathlib.Core.Path.{ap}
 use native.Mathlib.Omega.{arith}
 use Rattle.forest.specs.Arrays.{parentIn}
 use Rattle.forest.proofs.Climb.{Reached, begins, stays, goes, ended}
-use Rattle.forest.proofs.walks.root.Statement.{statement}
-use Rattle.forest.proofs.walks.root.Tie as tie
+use Rattle.forest_walk.proofs.root.Statement.{statement}
+use Rattle.forest_walk.proofs.root.Tie as tie
 
 pub root-spec : {M : Type 1} → statement M
 root-spec =

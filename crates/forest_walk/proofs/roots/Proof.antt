@@ -1,12 +1,12 @@
--- `forest::walks::roots` meets its contract: entry c is filled with the root of c.
+-- `forest_walk::roots` meets its contract: entry c is filled with the root of c.
 use Prim.Native.Nat.{_-_}
 use mathlib.Core.Path.{refl}
 use native.Mathlib.Omega.{arith}
 use Rattle.graph.specs.Forest.{climb}
 use Rattle.forest.specs.Arrays.{places, parentIn}
 use Rattle.forest.proofs.Fill.{Filled, fill-none, fill-one, fill-each}
-use Rattle.forest.proofs.walks.roots.Statement.{statement}
-use Rattle.forest.proofs.walks.roots.Tie as tie
+use Rattle.forest_walk.proofs.roots.Statement.{statement}
+use Rattle.forest_walk.proofs.roots.Tie as tie
 
 pub roots-spec : {M : Type 1} → statement M
 roots-spec =

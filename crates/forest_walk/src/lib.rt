@@ -1,10 +1,11 @@
-// Walks: from a cell to its root along the parents, in at most `limit` steps.
+// Walks in a forest of RULES 3: from a cell to its root along the parents, in at most `limit` steps, without a cut and at a cut.
+// Those that end in `_inside` are told that parents are cells, and ask nothing at a step; the others are total.
+use forest::PLACES;
+use forest::Walk;
 ghost use mathlib.Core.Path.{_≡_};
 ghost use Prim.Native.Nat.{_<_};
 ghost use lib.ListN.{length};
 ghost use Rattle.forest.specs.Arrays.{places, parentIn, labelIn, parentAtIn, walkOf, walkAtOf, rootsOf, ParentsAreCells};
-use super::PLACES;
-use super::Walk;
 
 // The cell's parent; a cell beyond the slice stands still.
 fn up(parent: &[u16], cell: u16) -> u16

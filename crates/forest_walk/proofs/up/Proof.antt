@@ -1,10 +1,10 @@
--- `forest::walks::up` meets its contract: within the slice the default of a read does not matter; beyond it, it is the cell.
+-- `forest_walk::up` meets its contract: within the slice the default of a read does not matter; beyond it, it is the cell.
 use borrow.Author.Needs.{needs}
 use mathlib.Core.Path.{sym}
 use lib.ListN.{List·getD-eq-default}
 use Rattle.forest.proofs.Fill.{getD-within}
-use Rattle.forest.proofs.walks.up.Statement.{statement}
-use Rattle.forest.proofs.walks.up.Tie as tie
+use Rattle.forest_walk.proofs.up.Statement.{statement}
+use Rattle.forest_walk.proofs.up.Tie as tie
 
 mul-result : tie.Need-mul-result
 mul-result c = search needs

@@ -1,9 +1,9 @@
--- `forest::walks::label_of` meets its contract: beyond the slice the label is 0.
+-- `forest_walk::label_of` meets its contract: beyond the slice the label is 0.
 use borrow.Author.Needs.{needs}
 use mathlib.Core.Path.{sym}
 use lib.ListN.{List·getD-eq-default}
-use Rattle.forest.proofs.walks.label_of.Statement.{statement}
-use Rattle.forest.proofs.walks.label_of.Tie as tie
+use Rattle.forest_walk.proofs.label_of.Statement.{statement}
+use Rattle.forest_walk.proofs.label_of.Tie as tie
 
 shared-slice-read-result : tie.Need-shared-slice-read-result
 shared-slice-read-result c = search needs

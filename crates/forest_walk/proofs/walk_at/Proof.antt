@@ -1,10 +1,10 @@
--- `forest::walks::walk_at` meets its contract: the loop of a walk (proofs/Climb.antt), by the parents at the cut.
+-- `forest_walk::walk_at` meets its contract: the loop of a walk (`Climb` of forest), by the parents at the cut.
 use Prim.Native.Nat.{_-_}
 use native.Mathlib.Omega.{arith}
 use Rattle.forest.specs.Arrays.{parentAtIn}
 use Rattle.forest.proofs.Climb.{Reached, begins, stays, goes, ended}
-use Rattle.forest.proofs.walks.walk_at.Statement.{statement}
-use Rattle.forest.proofs.walks.walk_at.Tie as tie
+use Rattle.forest_walk.proofs.walk_at.Statement.{statement}
+use Rattle.forest_walk.proofs.walk_at.Tie as tie
 
 pub walk-at-spec : {M : Type 1} → statement M
 walk-at-spec =

@@ -1,7 +1,7 @@
--- `forest::walks::up_at` meets its contract: the test decides the definition's case.
+-- `forest_walk::up_at` meets its contract: the test decides the definition's case.
 use borrow.Author.Tests.{lt-ltb, le-ltb}
-use Rattle.forest.proofs.walks.up_at.Statement.{statement}
-use Rattle.forest.proofs.walks.up_at.Tie as tie
+use Rattle.forest_walk.proofs.up_at.Statement.{statement}
+use Rattle.forest_walk.proofs.up_at.Tie as tie
 
 label-of-requires : tie.Need-label-of-requires
 label-of-requires c κs = tt
