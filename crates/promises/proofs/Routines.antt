@@ -8,58 +8,30 @@ use mathlib.Core.List.{List}
 use native.Mathlib.Omega.{arith}
 use lib.ListN.{length}
 use denote.Ref.{now}
-use Rattle.numbers.specs.Checks.{unless}
 use Rattle.numbers.specs.Front.{atFront}
 use Rattle.book_state.specs.declared.Book.{Book}
-use Rattle.book_state.specs.Order.{inOrder}
-use Rattle.window_groups.specs.Groups.{groupsOf}
-use Rattle.window_groups.specs.Call.{groupsNumberIn, groupsByNumber, groupsGiven}
-use Rattle.file.specs.Format.{readNumber, readOf}
+use Rattle.file.specs.Format.{readOf}
 use Rattle.file.proofs.Files.{written-then-read, read-then-written}
-use Rattle.file_play.specs.Play.{Play, playFrom, fileByNumber, playOf}
+use Rattle.file_play.specs.Play.{Play}
 use Rattle.file_play.specs.declared.PlayAnswer.{PlayAnswer}
-use Rattle.file_play.specs.Record.{recordIf}
 use Rattle.listing.specs.Listing.{listedIf, listingOf}
 use Rattle.pledges.proofs.Exported.{demanded}
 use Rattle.pledges.proofs.Pledges.{pledges}
-use Rattle.promises.specs.History.{opening, link, clock, History}
-use Rattle.promises.specs.Implementation.{gives}
-use Rattle.promises.specs.Agrees.{Agrees}
-use Rattle.promises.specs.Demands.{Stopped}
+use Rattle.demands.specs.History.{opening, link, clock, History}
+use Rattle.demands.specs.Implementation.{gives}
+use Rattle.demands.specs.Agrees.{Agrees}
+use Rattle.demands.specs.Demands.{Stopped}
 use Rattle.promises.specs.Routines.{CodeRefuses, LeftByCalls, CodeTable, CodeJoined, CodeFiles, CodeChain, CodeListed}
-use Rattle.promises.proofs.Refused.{refused}
-use Rattle.promises.proofs.FilesRefused.{read-gives, files-refused}
-use Rattle.promises.proofs.NumbersAgree.{itself, opening-gives, link-gives, clock-gives, joined-gives, number-agrees, asked-agrees}
-use Rattle.promises.proofs.NoEight.{chain-gives}
-use Rattle.promises.proofs.Keeps.{keeps}
-use Rattle.promises.proofs.JoinedIs.{joined-window, joined-steps, joined-few}
-use Rattle.promises.proofs.ChainIs.{answers}
-use Rattle.promises.proofs.ListedCalls.{plays-told}
-use Rattle.promises.proofs.ListedGroups.{groups-told}
-use Rattle.promises.proofs.ListedPrints.{prints-told}
-
--- ---- a call gives its number
-
-pub groups-gives : (b : Book) (log first size hold : List ℕ) →
-    groupsGiven b log first size hold .answer .number ≡ groupsNumberIn (inOrder b) log first size hold
-unfolding groupsGiven groupsByNumber
-groups-gives b log first size hold =
-    itself (λ k. groupsByNumber k (groupsOf (b .clock) (b .counts) log) first size hold .answer .number) refl (λ k. refl) _
-
-list-gives : (t : Bool) (text out : List ℕ) → listedIf t text out .answer .number ≡ unless t 6
-unfolding listedIf
-list-gives true text out = refl
-list-gives false text out = refl
-
-unpack-gives : (t : Bool) (records : List ℕ) (i : ℕ) → recordIf t records i .number ≡ unless t 9
-unfolding recordIf
-unpack-gives true records i = refl
-unpack-gives false records i = refl
-
--- a file that the reader takes is played
-pub play-read : (file : List ℕ) (b : Book) (log : List ℕ) → readNumber file ≡ 0 → playOf file b log ≡ playFrom file 0 (readOf file .m) b log
-unfolding playOf fileByNumber
-play-read file b log e = ap (λ k. fileByNumber k file (readOf file .m) b log) (read-gives file ∙ e)
+use Rattle.demands.proofs.Refused.{refused}
+use Rattle.demands.proofs.FilesRefused.{read-gives, groups-gives, list-gives, unpack-gives, play-read, files-refused}
+use Rattle.demands.proofs.NumbersAgree.{opening-gives, link-gives, clock-gives, joined-gives, number-agrees, asked-agrees}
+use Rattle.demands.proofs.NoEight.{chain-gives}
+use Rattle.demands.proofs.Keeps.{keeps}
+use Rattle.demands.proofs.JoinedIs.{joined-window, joined-steps, joined-few}
+use Rattle.demands.proofs.ChainIs.{answers}
+use Rattle.demands_listing.proofs.ListedCalls.{plays-told}
+use Rattle.demands_listing.proofs.ListedGroups.{groups-told}
+use Rattle.demands_listing.proofs.ListedPrints.{prints-told}
 
 abbrev answerOf : Play → PlayAnswer
 answerOf p = record { taken = p .taken; number = p .number }

@@ -30,10 +30,10 @@ use Rattle.listing.specs.Listing.{listingText, outputPlaces}
 use Rattle.pledges.specs.Exported.{CodeMeets}
 use Rattle.pledges.specs.Calls.{openingCall, linkCall, clockCall, playCall, joinedCall, chainCall, groupsCall, readCall, writeCall, listCall, packCall, unpackCall}
 use Rattle.pledges.specs.Pledges.{with1, with2, with3, with4, with5}
-use Rattle.promises.specs.History.{Call, opening, link, clock, History, numberIn, windowOf}
-use Rattle.promises.specs.Implementation.{ours, State, after}
-use Rattle.promises.specs.Listed.{Plays, groupsOutcomeIn, Prints}
-use Rattle.promises.specs.Demands.{roomIn, HasHistory, Stopped, stepsIn, Answers}
+use Rattle.demands.specs.History.{Call, opening, link, clock, History, numberIn, windowOf}
+use Rattle.demands.specs.Implementation.{ours, State, after}
+use Rattle.demands_listing.specs.Listed.{Plays, groupsOutcomeIn, Prints}
+use Rattle.demands.specs.Demands.{roomIn, HasHistory, Stopped, stepsIn, Answers}
 
 -- with a number that is not 0
 abbrev pub Refusing : (number : ℕ) (unchanged : Type 0) → Type 0
