@@ -1,2 +1,3 @@
+pub mod Ends
 pub mod Promise
 pub mod Routines

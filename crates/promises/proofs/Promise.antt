@@ -9,9 +9,9 @@ use Rattle.demands.proofs.Refused.{refused}
 use Rattle.demands.proofs.Table.{table}
 use Rattle.demands_cases.specs.Cases.{cases}
 use Rattle.demands_listing.proofs.Listed.{listed}
-use Rattle.pledges.proofs.Pledges.{pledges}
 use Rattle.pledges.proofs.Single.{single}
 use Rattle.promises.specs.Promise.{Kept}
+use Rattle.promises.proofs.Ends.{code-ends}
 use Rattle.promises.proofs.Routines.{code-refuses, code-table, code-joined, code-files, code-chain, code-listing}
 
 pub kept : Kept
@@ -19,7 +19,7 @@ kept =
     record {
       demand-1 =
           record {
-            ends = pledges;
+            ends = code-ends;
             refuses = code-refuses;
             refused = refused;
             files-refused = files-refused;
