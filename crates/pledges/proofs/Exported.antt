@@ -2,7 +2,7 @@
 --
 -- A contract that is one claim (or two), the same at every model, allows a result exactly where the claim holds of it; so it is enough
 -- to show that the claim holds of the definition's result and of no other. Where a contract allows one result alone, two that it
--- allows are equal; and since the code meets its contract, it meets every demand that the definition meets, by the rule of consequence.
+-- allows are equal; and code that meets it meets every demand that the definition meets, by the rule of consequence.
 use mathlib.Core.Path.{_≡_, refl, sym, subst, subst⁻¹, _∙_}
 use base.Logic.{ent, sep, emp, id⊢, via, mono∗, monoR, fst∗, snd∗, emp∗}
 use ghost.Atoms.{sem}
@@ -24,10 +24,10 @@ use Rattle.pledges.specs.Exported.{
   contractAt,
   allows,
   Exactly,
+  Met,
   Pledged,
   SingleResult,
   CodeMeets,
-  Gives,
 }
 
 module _ (f : Exported) (definition : Definition f) where
@@ -51,24 +51,8 @@ module _ (f : Exported) (definition : Definition f) where
         (via (w .𝓤) (fact (w .𝓤) (s ≡ definition κs a)) (exactly w κs a .only g s)
         (fact-mono (w .𝓤) (s ≡ definition κs a) (r ≡ s) (λ q. p ∙ sym q))))
 
-    -- the code meets every demand that the definition meets
-    code-meets : (demand : Claim f) → ((κs : Lifetimes f) (a : Given f κs) → Of demand κs a (definition κs a)) → CodeMeets f demand
-    code-meets demand holds =
-        record {
-          meets = λ M 𝓤 H 𝓜 𝓖 𝓡.
-              let w : World = record { M = M; 𝓤 = 𝓤; H = H; 𝓜 = 𝓜; 𝓖 = 𝓖; 𝓡 = 𝓡 } in
-              weaken-under 𝓤 H (𝓖 .A) (f .ended) (givenOf 𝓤 H 𝓜 𝓖) (contractAt f w)
-              (λ κs a. record { ghost = Unit {0}; requires = λ g. emp 𝓤; ensures = λ g r e. fact 𝓤 (demand κs a r e) })
-              (λ κs a g. exactly w κs a .ghost) (λ κs a g. Unit {0}) (λ κs a g. factI 𝓤 (Unit {0}) (emp 𝓤) tt)
-              (λ κs a g _. exactly w κs a .unasked)
-              (λ κs a g _ r ws. monoR 𝓤 (sem 𝓤 H (𝓖 .A) (lasts (f .ended) κs a ws))
-              (via 𝓤 (fact 𝓤 (_≡_ {A = Result f κs a} (r, ws) (definition κs a))) (exactly w κs a .only (exactly w κs a .ghost) (r, ws))
-              (fact-mono 𝓤 _ (demand κs a r (atExit (f .ended) κs a ws)) (λ e. subst⁻¹ (λ t. Of demand κs a t) e (holds κs a)))))
-              (𝓡 .run (f .routine)) (routine-mono 𝓤 H 𝓜 𝓡 (f .routine)) (f .met M 𝓤 H 𝓜 𝓖 𝓡);
-        }
-
     pledge : Pledged f definition
-    pledge = record { exactly = exactly; single = single-result; code = code-meets (Gives f definition) (λ κs a. (refl, refl)) }
+    pledge = record { exactly = exactly; single = single-result }
 
   -- ---- the two forms of our contracts
 
@@ -135,6 +119,19 @@ single-claim f {P} reads one w κs a g r s =
 
 -- ---- for whoever has a pledge
 
-pub demanded : {f : Exported} {definition : Definition f} {demand : Claim f} → Pledged f definition →
-    ((κs : Lifetimes f) (a : Given f κs) → demand κs a (definition κs a .0) (atExit (f .ended) κs a (definition κs a .1))) → CodeMeets f demand
-demanded {f} {definition} {demand} p holds = code-meets f definition (p .exactly) demand holds
+-- code that meets its contract meets every demand that the definition meets
+pub code-meets : {f : Exported} {definition : Definition f} {demand : Claim f} → Met f → Pledged f definition →
+    ((κs : Lifetimes f) (a : Given f κs) → Of f definition demand κs a (definition κs a)) → CodeMeets f demand
+code-meets {f} {definition} {demand} met p holds =
+    record {
+      meets = λ M 𝓤 H 𝓜 𝓖 𝓡.
+          let w : World = record { M = M; 𝓤 = 𝓤; H = H; 𝓜 = 𝓜; 𝓖 = 𝓖; 𝓡 = 𝓡 } in
+          weaken-under 𝓤 H (𝓖 .A) (f .ended) (givenOf 𝓤 H 𝓜 𝓖) (contractAt f w)
+          (λ κs a. record { ghost = Unit {0}; requires = λ g. emp 𝓤; ensures = λ g r e. fact 𝓤 (demand κs a r e) })
+          (λ κs a g. p .exactly w κs a .ghost) (λ κs a g. Unit {0}) (λ κs a g. factI 𝓤 (Unit {0}) (emp 𝓤) tt)
+          (λ κs a g _. p .exactly w κs a .unasked)
+          (λ κs a g _ r ws. monoR 𝓤 (sem 𝓤 H (𝓖 .A) (lasts (f .ended) κs a ws))
+          (via 𝓤 (fact 𝓤 (_≡_ {A = Result f κs a} (r, ws) (definition κs a))) (p .exactly w κs a .only (p .exactly w κs a .ghost) (r, ws))
+          (fact-mono 𝓤 _ (demand κs a r (atExit (f .ended) κs a ws)) (λ e. subst⁻¹ (λ t. Of f definition demand κs a t) e (holds κs a)))))
+          (𝓡 .run (f .routine)) (routine-mono 𝓤 H 𝓜 𝓡 (f .routine)) (met M 𝓤 H 𝓜 𝓖 𝓡);
+    }

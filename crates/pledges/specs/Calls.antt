@@ -1,5 +1,6 @@
 -- The exported calls as the kit hands them out: nothing of a contract is quoted here. For each function F of a crate the kit generates
--- `Rattle.CRATE.proofs.F` with its signature, its clauses, its routine and the theorem that the routine meets the clauses.
+-- `Rattle.CRATE.proofs.F` with its signature, its clauses and its routine; and the theorem that the routine meets the clauses, which is
+-- taken up in the crate promises (proofs/Ends), since who names it has the prover read every proof that it rests on.
 use Rattle.kerb.proofs.kerb_book_size
 use Rattle.kerb.proofs.kerb_lorry_cell
 use Rattle.kerb.proofs.kerb_never_opened
@@ -24,136 +25,64 @@ use Rattle.kerb_slides.proofs.kerb_slide_ticks
 use Rattle.pledges.specs.Exported.{Exported}
 
 abbrev pub neverOpenedCall : Exported
-neverOpenedCall =
-    record {
-      ended = kerb_never_opened.ended;
-      clauses = λ M. kerb_never_opened.clauses;
-      routine = kerb_never_opened.Symbol.routine;
-      met = λ M. kerb_never_opened.Met.met;
-    }
+neverOpenedCall = record { ended = kerb_never_opened.ended; clauses = λ M. kerb_never_opened.clauses; routine = kerb_never_opened.Symbol.routine }
 
 abbrev pub openingCall : Exported
-openingCall =
-    record {
-      ended = kerb_opening.ended;
-      clauses = λ M. kerb_opening.clauses;
-      routine = kerb_opening.Symbol.routine;
-      met = λ M. kerb_opening.Met.met;
-    }
+openingCall = record { ended = kerb_opening.ended; clauses = λ M. kerb_opening.clauses; routine = kerb_opening.Symbol.routine }
 
 abbrev pub linkCall : Exported
-linkCall = record { ended = kerb_link.ended; clauses = λ M. kerb_link.clauses; routine = kerb_link.Symbol.routine; met = λ M. kerb_link.Met.met }
+linkCall = record { ended = kerb_link.ended; clauses = λ M. kerb_link.clauses; routine = kerb_link.Symbol.routine }
 
 abbrev pub clockCall : Exported
-clockCall = record { ended = kerb_clock.ended; clauses = λ M. kerb_clock.clauses; routine = kerb_clock.Symbol.routine; met = λ M. kerb_clock.Met.met }
+clockCall = record { ended = kerb_clock.ended; clauses = λ M. kerb_clock.clauses; routine = kerb_clock.Symbol.routine }
 
 abbrev pub playCall : Exported
-playCall = record { ended = kerb_play.ended; clauses = λ M. kerb_play.clauses; routine = kerb_play.Symbol.routine; met = λ M. kerb_play.Met.met }
+playCall = record { ended = kerb_play.ended; clauses = λ M. kerb_play.clauses; routine = kerb_play.Symbol.routine }
 
 abbrev pub joinedCall : Exported
-joinedCall =
-    record {
-      ended = kerb_joined.ended;
-      clauses = λ M. kerb_joined.clauses;
-      routine = kerb_joined.Symbol.routine;
-      met = λ M. kerb_joined.Met.met;
-    }
+joinedCall = record { ended = kerb_joined.ended; clauses = λ M. kerb_joined.clauses; routine = kerb_joined.Symbol.routine }
 
 abbrev pub chainCall : Exported
-chainCall = record { ended = kerb_chain.ended; clauses = λ M. kerb_chain.clauses; routine = kerb_chain.Symbol.routine; met = λ M. kerb_chain.Met.met }
+chainCall = record { ended = kerb_chain.ended; clauses = λ M. kerb_chain.clauses; routine = kerb_chain.Symbol.routine }
 
 abbrev pub groupsCall : Exported
-groupsCall =
-    record {
-      ended = kerb_groups.ended;
-      clauses = λ M. kerb_groups.clauses;
-      routine = kerb_groups.Symbol.routine;
-      met = λ M. kerb_groups.Met.met;
-    }
+groupsCall = record { ended = kerb_groups.ended; clauses = λ M. kerb_groups.clauses; routine = kerb_groups.Symbol.routine }
 
 abbrev pub openSlideCall : Exported
-openSlideCall =
-    record {
-      ended = kerb_open_slide.ended;
-      clauses = λ M. kerb_open_slide.clauses;
-      routine = kerb_open_slide.Symbol.routine;
-      met = λ M. kerb_open_slide.Met.met;
-    }
+openSlideCall = record { ended = kerb_open_slide.ended; clauses = λ M. kerb_open_slide.clauses; routine = kerb_open_slide.Symbol.routine }
 
 abbrev pub slideTicksCall : Exported
-slideTicksCall =
-    record {
-      ended = kerb_slide_ticks.ended;
-      clauses = λ M. kerb_slide_ticks.clauses;
-      routine = kerb_slide_ticks.Symbol.routine;
-      met = λ M. kerb_slide_ticks.Met.met;
-    }
+slideTicksCall = record { ended = kerb_slide_ticks.ended; clauses = λ M. kerb_slide_ticks.clauses; routine = kerb_slide_ticks.Symbol.routine }
 
 abbrev pub readCall : Exported
-readCall = record { ended = kerb_read.ended; clauses = λ M. kerb_read.clauses; routine = kerb_read.Symbol.routine; met = λ M. kerb_read.Met.met }
+readCall = record { ended = kerb_read.ended; clauses = λ M. kerb_read.clauses; routine = kerb_read.Symbol.routine }
 
 abbrev pub writeCall : Exported
-writeCall = record { ended = kerb_write.ended; clauses = λ M. kerb_write.clauses; routine = kerb_write.Symbol.routine; met = λ M. kerb_write.Met.met }
+writeCall = record { ended = kerb_write.ended; clauses = λ M. kerb_write.clauses; routine = kerb_write.Symbol.routine }
 
 abbrev pub listCall : Exported
-listCall = record { ended = kerb_list.ended; clauses = λ M. kerb_list.clauses; routine = kerb_list.Symbol.routine; met = λ M. kerb_list.Met.met }
+listCall = record { ended = kerb_list.ended; clauses = λ M. kerb_list.clauses; routine = kerb_list.Symbol.routine }
 
 abbrev pub packCall : Exported
-packCall = record { ended = kerb_pack.ended; clauses = λ M. kerb_pack.clauses; routine = kerb_pack.Symbol.routine; met = λ M. kerb_pack.Met.met }
+packCall = record { ended = kerb_pack.ended; clauses = λ M. kerb_pack.clauses; routine = kerb_pack.Symbol.routine }
 
 abbrev pub unpackCall : Exported
-unpackCall =
-    record {
-      ended = kerb_unpack.ended;
-      clauses = λ M. kerb_unpack.clauses;
-      routine = kerb_unpack.Symbol.routine;
-      met = λ M. kerb_unpack.Met.met;
-    }
+unpackCall = record { ended = kerb_unpack.ended; clauses = λ M. kerb_unpack.clauses; routine = kerb_unpack.Symbol.routine }
 
 abbrev pub lorryCellCall : Exported
-lorryCellCall =
-    record {
-      ended = kerb_lorry_cell.ended;
-      clauses = λ M. kerb_lorry_cell.clauses;
-      routine = kerb_lorry_cell.Symbol.routine;
-      met = λ M. kerb_lorry_cell.Met.met;
-    }
+lorryCellCall = record { ended = kerb_lorry_cell.ended; clauses = λ M. kerb_lorry_cell.clauses; routine = kerb_lorry_cell.Symbol.routine }
 
 abbrev pub unitCellCall : Exported
-unitCellCall =
-    record {
-      ended = kerb_unit_cell.ended;
-      clauses = λ M. kerb_unit_cell.clauses;
-      routine = kerb_unit_cell.Symbol.routine;
-      met = λ M. kerb_unit_cell.Met.met;
-    }
+unitCellCall = record { ended = kerb_unit_cell.ended; clauses = λ M. kerb_unit_cell.clauses; routine = kerb_unit_cell.Symbol.routine }
 
 abbrev pub ringCall : Exported
-ringCall = record { ended = kerb_ring.ended; clauses = λ M. kerb_ring.clauses; routine = kerb_ring.Symbol.routine; met = λ M. kerb_ring.Met.met }
+ringCall = record { ended = kerb_ring.ended; clauses = λ M. kerb_ring.clauses; routine = kerb_ring.Symbol.routine }
 
 abbrev pub sectorCall : Exported
-sectorCall =
-    record {
-      ended = kerb_sector.ended;
-      clauses = λ M. kerb_sector.clauses;
-      routine = kerb_sector.Symbol.routine;
-      met = λ M. kerb_sector.Met.met;
-    }
+sectorCall = record { ended = kerb_sector.ended; clauses = λ M. kerb_sector.clauses; routine = kerb_sector.Symbol.routine }
 
 abbrev pub versionCall : Exported
-versionCall =
-    record {
-      ended = kerb_version_2.ended;
-      clauses = λ M. kerb_version_2.clauses;
-      routine = kerb_version_2.Symbol.routine;
-      met = λ M. kerb_version_2.Met.met;
-    }
+versionCall = record { ended = kerb_version_2.ended; clauses = λ M. kerb_version_2.clauses; routine = kerb_version_2.Symbol.routine }
 
 abbrev pub bookSizeCall : Exported
-bookSizeCall =
-    record {
-      ended = kerb_book_size.ended;
-      clauses = λ M. kerb_book_size.clauses;
-      routine = kerb_book_size.Symbol.routine;
-      met = λ M. kerb_book_size.Met.met;
-    }
+bookSizeCall = record { ended = kerb_book_size.ended; clauses = λ M. kerb_book_size.clauses; routine = kerb_book_size.Symbol.routine }

@@ -30,14 +30,17 @@ RoutineMeets T ρ c =
     (M : Type 1) (𝓤 : URA M) (H : Heap 𝓤) (𝓜 : Model 𝓤 H) (𝓖 : GhostRules 𝓤 H) (𝓡 : Running 𝓤 H 𝓜) →
     Meets 𝓤 H (𝓖 .A) (T .signature) (𝓡 .run ρ) (closing 𝓤 H (𝓖 .A) T (c M 𝓤 H (𝓖 .A) (𝓜 .mem) (𝓡 .run)))
 
--- a function, exported from the library or from a crate: its signature, its contract, its code, and the theorem that the code meets the contract
+-- a function, exported from the library or from a crate: its signature, its contract and its code
 pub record Exported : Type 3 where
   pub ended : Ended
   pub clauses : ClausesOf ended
   pub routine : Routine
-  pub met : RoutineMeets ended routine clauses
 
 module _ (f : Exported) where
+  -- its code meets its contract
+  abbrev pub Met : Type 2
+  Met = RoutineMeets (f .ended) (f .routine) (f .clauses)
+
   abbrev pub Lifetimes : Type 0
   Lifetimes = Lfts (f .ended .signature .lifetimes)
 
@@ -96,8 +99,7 @@ module _ (f : Exported) where
   abbrev pub Gives : Definition → Claim
   Gives definition κs a r e = (r ≡ definition κs a .0) × (e ≡ atExit (f .ended) κs a (definition κs a .1))
 
-  -- the function gives for every input what the definition says
+  -- the contract says what the definition says: it allows the definition's result, for every input, and no other
   pub record Pledged (definition : Definition) : Type 2 where
     pub exactly : (w : World) (κs : Lifetimes) (a : Given κs) → Exactly w κs a (contractAt w κs a) (definition κs a)
     pub single : SingleResult
-    pub code : CodeMeets (Gives definition)

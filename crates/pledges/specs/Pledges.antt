@@ -14,7 +14,7 @@ use Rattle.file_play.specs.Record.{packNumber, packedOf, recordOf}
 use Rattle.listing.specs.Listing.{Listing, listingOf}
 use Rattle.window_groups.specs.Call.{GroupsOutcome, groupsGiven}
 use Rattle.kerb.specs.Interface.{version, bookSize}
-use Rattle.pledges.specs.Exported.{Pledged}
+use Rattle.pledges.specs.Exported.{Exported, Definition, Pledged}
 use Rattle.pledges.specs.Calls.{
   neverOpenedCall,
   openingCall,
@@ -63,44 +63,48 @@ with4 a f = with3 (a .1) (f (a .0))
 abbrev pub with5 {κ} : {A B C D E : Type 0} {X : Type κ} → A × (B × (C × (D × (E × Unit {0})))) → (A → B → C → D → E → X) → X
 with5 a f = with4 (a .1) (f (a .0))
 
-pub record Pledges : Type 2 where
-  pub kerb-never-opened : Pledged neverOpenedCall λ κs a. neverOpened ▸ tt
-  pub kerb-opening : Pledged openingCall λ κs a. with3 a λ book log s.
+-- something holds of every exported call and its definition
+pub record EachCall (Holds : (f : Exported) → Definition f → Type 2) : Type 2 where
+  pub kerb-never-opened : Holds neverOpenedCall λ κs a. neverOpened ▸ tt
+  pub kerb-opening : Holds openingCall λ κs a. with3 a λ book log s.
       let o : Outcome = openingOf (now book) (now log) s in
       o .number ▸ o .book ▸ o .log ▸ kept ▸ tt
-  pub kerb-link : Pledged linkCall λ κs a. with5 a λ book log tick one other.
+  pub kerb-link : Holds linkCall λ κs a. with5 a λ book log tick one other.
       let o : Outcome = linkOf (now book) (now log) tick one other in
       o .number ▸ o .book ▸ o .log ▸ kept ▸ kept ▸ kept ▸ tt
-  pub kerb-clock : Pledged clockCall λ κs a. with3 a λ book log tick.
+  pub kerb-clock : Holds clockCall λ κs a. with3 a λ book log tick.
       let o : Outcome = clockOf (now book) (now log) tick in
       o .number ▸ o .book ▸ kept ▸ kept ▸ tt
-  pub kerb-play : Pledged playCall λ κs a. with3 a λ book log file.
+  pub kerb-play : Holds playCall λ κs a. with3 a λ book log file.
       let p : Play = playOf (now file) (now book) (now log) in
       record { taken = p .taken; number = p .number } ▸ p .book ▸ p .log ▸ kept ▸ tt
-  pub kerb-joined : Pledged joinedCall λ κs a. with3 a λ book one other.
+  pub kerb-joined : Holds joinedCall λ κs a. with3 a λ book one other.
       joinedOf (now book) one other ▸ kept ▸ kept ▸ kept ▸ tt
-  pub kerb-chain : Pledged chainCall λ κs a. with5 a λ book log one other chain.
+  pub kerb-chain : Holds chainCall λ κs a. with5 a λ book log one other chain.
       let o : ChainOutcome = chainOf (now book) (now log) (now chain) one other in
       o .answer ▸ kept ▸ kept ▸ kept ▸ kept ▸ o .chain ▸ tt
-  pub kerb-groups : Pledged groupsCall λ κs a. with5 a λ book log first size hold.
+  pub kerb-groups : Holds groupsCall λ κs a. with5 a λ book log first size hold.
       let o : GroupsOutcome = groupsGiven (now book) (now log) (now first) (now size) (now hold) in
       o .answer ▸ kept ▸ kept ▸ o .first ▸ o .size ▸ o .hold ▸ tt
-  pub kerb-open-slide : Pledged openSlideCall λ κs a. with1 a λ book. openSlide (now book .clock) ▸ kept ▸ tt
-  pub kerb-slide-ticks : Pledged slideTicksCall λ κs a. with2 a λ book slide. ticksOf (now book .clock) slide ▸ kept ▸ kept ▸ tt
-  pub kerb-read : Pledged readCall λ κs a. with1 a λ file. readOf (now file) ▸ kept ▸ tt
-  pub kerb-write : Pledged writeCall λ κs a. with3 a λ s records out.
+  pub kerb-open-slide : Holds openSlideCall λ κs a. with1 a λ book. openSlide (now book .clock) ▸ kept ▸ tt
+  pub kerb-slide-ticks : Holds slideTicksCall λ κs a. with2 a λ book slide. ticksOf (now book .clock) slide ▸ kept ▸ kept ▸ tt
+  pub kerb-read : Holds readCall λ κs a. with1 a λ file. readOf (now file) ▸ kept ▸ tt
+  pub kerb-write : Holds writeCall λ κs a. with3 a λ s records out.
       writeNumber s (length (now records)) (length (now out)) ▸ kept ▸ kept ▸ outputOf s (now records) (now out) ▸ tt
-  pub kerb-list : Pledged listCall λ κs a. with2 a λ file out.
+  pub kerb-list : Holds listCall λ κs a. with2 a λ file out.
       let l : Listing = listingOf (now file) (now out) in
       l .answer ▸ kept ▸ l .output ▸ tt
-  pub kerb-pack : Pledged packCall λ κs a. with4 a λ tick one other out.
+  pub kerb-pack : Holds packCall λ κs a. with4 a λ tick one other out.
       packNumber (length (now out)) ▸ kept ▸ kept ▸ kept ▸ packedOf tick one other (now out) ▸ tt
-  pub kerb-unpack : Pledged unpackCall λ κs a. with2 a λ records i. recordOf (now records) i ▸ kept ▸ kept ▸ tt
-  pub kerb-lorry-cell : Pledged lorryCellCall λ κs a. with2 a λ mounting cell.
+  pub kerb-unpack : Holds unpackCall λ κs a. with2 a λ records i. recordOf (now records) i ▸ kept ▸ kept ▸ tt
+  pub kerb-lorry-cell : Holds lorryCellCall λ κs a. with2 a λ mounting cell.
       lorryCell (record { mounting = mounting; pad = replicate 3 0 }) cell ▸ kept ▸ kept ▸ tt
-  pub kerb-unit-cell : Pledged unitCellCall λ κs a. with2 a λ mounting cell.
+  pub kerb-unit-cell : Holds unitCellCall λ κs a. with2 a λ mounting cell.
       unitCell (record { mounting = mounting; pad = replicate 3 0 }) cell ▸ kept ▸ kept ▸ tt
-  pub kerb-ring : Pledged ringCall λ κs a. with1 a λ cell. ringOf sectors cell ▸ kept ▸ tt
-  pub kerb-sector : Pledged sectorCall λ κs a. with1 a λ cell. sectorOf sectors cell ▸ kept ▸ tt
-  pub kerb-version-2 : Pledged versionCall λ κs a. version ▸ tt
-  pub kerb-book-size : Pledged bookSizeCall λ κs a. bookSize ▸ tt
+  pub kerb-ring : Holds ringCall λ κs a. with1 a λ cell. ringOf sectors cell ▸ kept ▸ tt
+  pub kerb-sector : Holds sectorCall λ κs a. with1 a λ cell. sectorOf sectors cell ▸ kept ▸ tt
+  pub kerb-version-2 : Holds versionCall λ κs a. version ▸ tt
+  pub kerb-book-size : Holds bookSizeCall λ κs a. bookSize ▸ tt
+
+abbrev pub Pledges : Type 2
+Pledges = EachCall Pledged

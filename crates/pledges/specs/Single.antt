@@ -24,130 +24,64 @@ use Rattle.forest_cross.proofs.joined_across
 use Rattle.pledges.specs.Exported.{Exported, SingleResult}
 
 abbrev pub freshenFn : Exported
-freshenFn = record { ended = freshen.ended; clauses = λ M. freshen.clauses; routine = freshen.Symbol.routine; met = λ M. freshen.Met.met }
+freshenFn = record { ended = freshen.ended; clauses = λ M. freshen.clauses; routine = freshen.Symbol.routine }
 
 abbrev pub moveToFn : Exported
-moveToFn = record { ended = move_to.ended; clauses = λ M. move_to.clauses; routine = move_to.Symbol.routine; met = λ M. move_to.Met.met }
+moveToFn = record { ended = move_to.ended; clauses = λ M. move_to.clauses; routine = move_to.Symbol.routine }
 
 abbrev pub fieldsOpeningFn : Exported
-fieldsOpeningFn =
-    record {
-      ended = fields_opening.ended;
-      clauses = λ M. fields_opening.clauses;
-      routine = fields_opening.Symbol.routine;
-      met = λ M. fields_opening.Met.met;
-    }
+fieldsOpeningFn = record { ended = fields_opening.ended; clauses = λ M. fields_opening.clauses; routine = fields_opening.Symbol.routine }
 
 abbrev pub fieldsLinkFn : Exported
-fieldsLinkFn =
-    record {
-      ended = fields_link.ended;
-      clauses = λ M. fields_link.clauses;
-      routine = fields_link.Symbol.routine;
-      met = λ M. fields_link.Met.met;
-    }
+fieldsLinkFn = record { ended = fields_link.ended; clauses = λ M. fields_link.clauses; routine = fields_link.Symbol.routine }
 
 abbrev pub fieldsLinkInOrderFn : Exported
-fieldsLinkInOrderFn =
-    record {
-      ended = fields_link_ordered.ended;
-      clauses = λ M. fields_link_ordered.clauses;
-      routine = fields_link_ordered.Symbol.routine;
-      met = λ M. fields_link_ordered.Met.met;
-    }
+fieldsLinkInOrderFn = record { ended = fields_link_ordered.ended; clauses = λ M. fields_link_ordered.clauses; routine = fields_link_ordered.Symbol.routine }
 
 abbrev pub fieldsClockFn : Exported
-fieldsClockFn =
-    record {
-      ended = fields_clock.ended;
-      clauses = λ M. fields_clock.clauses;
-      routine = fields_clock.Symbol.routine;
-      met = λ M. fields_clock.Met.met;
-    }
+fieldsClockFn = record { ended = fields_clock.ended; clauses = λ M. fields_clock.clauses; routine = fields_clock.Symbol.routine }
 
 abbrev pub gatherFn : Exported
-gatherFn = record { ended = gather.ended; clauses = λ M. gather.clauses; routine = gather.Symbol.routine; met = λ M. gather.Met.met }
+gatherFn = record { ended = gather.ended; clauses = λ M. gather.clauses; routine = gather.Symbol.routine }
 
 abbrev pub gatherNewestFn : Exported
-gatherNewestFn = record { ended = gather_newest.ended; clauses = λ M. gather_newest.clauses; routine = gather_newest.Symbol.routine; met = λ M. gather_newest.Met.met }
+gatherNewestFn = record { ended = gather_newest.ended; clauses = λ M. gather_newest.clauses; routine = gather_newest.Symbol.routine }
 
 abbrev pub bestTrailFn : Exported
-bestTrailFn =
-    record {
-      ended = best_trail.ended;
-      clauses = λ M. best_trail.clauses;
-      routine = best_trail.Symbol.routine;
-      met = λ M. best_trail.Met.met;
-    }
+bestTrailFn = record { ended = best_trail.ended; clauses = λ M. best_trail.clauses; routine = best_trail.Symbol.routine }
 
 abbrev pub chainOverFn : Exported
-chainOverFn =
-    record {
-      ended = chain_over.ended;
-      clauses = λ M. chain_over.clauses;
-      routine = chain_over.Symbol.routine;
-      met = λ M. chain_over.Met.met;
-    }
+chainOverFn = record { ended = chain_over.ended; clauses = λ M. chain_over.clauses; routine = chain_over.Symbol.routine }
 
 abbrev pub playOverFn : Exported
-playOverFn = record { ended = play_over.ended; clauses = λ M. play_over.clauses; routine = play_over.Symbol.routine; met = λ M. play_over.Met.met }
+playOverFn = record { ended = play_over.ended; clauses = λ M. play_over.clauses; routine = play_over.Symbol.routine }
 
 abbrev pub playFileFn : Exported
-playFileFn = record { ended = play_file.ended; clauses = λ M. play_file.clauses; routine = play_file.Symbol.routine; met = λ M. play_file.Met.met }
+playFileFn = record { ended = play_file.ended; clauses = λ M. play_file.clauses; routine = play_file.Symbol.routine }
 
 abbrev pub groupsOverFn : Exported
-groupsOverFn =
-    record {
-      ended = groups_over.ended;
-      clauses = λ M. groups_over.clauses;
-      routine = groups_over.Symbol.routine;
-      met = λ M. groups_over.Met.met;
-    }
+groupsOverFn = record { ended = groups_over.ended; clauses = λ M. groups_over.clauses; routine = groups_over.Symbol.routine }
 
 abbrev pub putWordFn : Exported
-putWordFn = record { ended = put_word.ended; clauses = λ M. put_word.clauses; routine = put_word.Symbol.routine; met = λ M. put_word.Met.met }
+putWordFn = record { ended = put_word.ended; clauses = λ M. put_word.clauses; routine = put_word.Symbol.routine }
 
 abbrev pub putFieldsFn : Exported
-putFieldsFn =
-    record {
-      ended = put_fields.ended;
-      clauses = λ M. put_fields.clauses;
-      routine = put_fields.Symbol.routine;
-      met = λ M. put_fields.Met.met;
-    }
+putFieldsFn = record { ended = put_fields.ended; clauses = λ M. put_fields.clauses; routine = put_fields.Symbol.routine }
 
 abbrev pub putLineFn : Exported
-putLineFn = record { ended = put_line.ended; clauses = λ M. put_line.clauses; routine = put_line.Symbol.routine; met = λ M. put_line.Met.met }
+putLineFn = record { ended = put_line.ended; clauses = λ M. put_line.clauses; routine = put_line.Symbol.routine }
 
 abbrev pub listFn : Exported
-listFn =
-    record {
-      ended = listing_list.ended;
-      clauses = λ M. listing_list.clauses;
-      routine = listing_list.Symbol.routine;
-      met = λ M. listing_list.Met.met;
-    }
+listFn = record { ended = listing_list.ended; clauses = λ M. listing_list.clauses; routine = listing_list.Symbol.routine }
 
 abbrev pub uniteFn : Exported
-uniteFn = record { ended = unite.ended; clauses = λ M. unite.clauses; routine = unite.Symbol.routine; met = λ M. unite.Met.met }
+uniteFn = record { ended = unite.ended; clauses = λ M. unite.clauses; routine = unite.Symbol.routine }
 
 abbrev pub listEntriesFn : Exported
-listEntriesFn =
-    record {
-      ended = list_entries.ended;
-      clauses = λ M. list_entries.clauses;
-      routine = list_entries.Symbol.routine;
-      met = λ M. list_entries.Met.met;
-    }
+listEntriesFn = record { ended = list_entries.ended; clauses = λ M. list_entries.clauses; routine = list_entries.Symbol.routine }
 
 abbrev pub joinedAcrossFn : Exported
-joinedAcrossFn =
-    record {
-      ended = joined_across.ended;
-      clauses = λ M. joined_across.clauses;
-      routine = joined_across.Symbol.routine;
-      met = λ M. joined_across.Met.met;
-    }
+joinedAcrossFn = record { ended = joined_across.ended; clauses = λ M. joined_across.clauses; routine = joined_across.Symbol.routine }
 
 pub record Single : Type 2 where
   pub book-time-freshen : SingleResult freshenFn

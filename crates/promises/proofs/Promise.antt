@@ -1,25 +1,25 @@
 -- The one theorem: all that the customer is promised is kept.
 use Rattle.file.proofs.Files.{written-then-read, read-then-written}
-use Rattle.pledges.proofs.Pledges.{pledges}
-use Rattle.promises.specs.Cases.{cases}
-use Rattle.promises.specs.Promise.{Kept}
-use Rattle.promises.proofs.ChainIs.{chain}
-use Rattle.promises.proofs.FilesRefused.{files-refused}
-use Rattle.promises.proofs.JoinedIs.{joined}
-use Rattle.promises.proofs.Keeps.{keeps}
-use Rattle.promises.proofs.Listed.{listed}
-use Rattle.promises.proofs.NeverOpened.{never-opened}
-use Rattle.promises.proofs.Refused.{refused}
-use Rattle.promises.proofs.Routines.{code-refuses, code-table, code-joined, code-files, code-chain, code-listing}
+use Rattle.demands.proofs.ChainIs.{chain}
+use Rattle.demands.proofs.FilesRefused.{files-refused}
+use Rattle.demands.proofs.JoinedIs.{joined}
+use Rattle.demands.proofs.Keeps.{keeps}
+use Rattle.demands.proofs.NeverOpened.{never-opened}
+use Rattle.demands.proofs.Refused.{refused}
+use Rattle.demands.proofs.Table.{table}
+use Rattle.demands_cases.specs.Cases.{cases}
+use Rattle.demands_listing.proofs.Listed.{listed}
 use Rattle.pledges.proofs.Single.{single}
-use Rattle.promises.proofs.Table.{table}
+use Rattle.promises.specs.Promise.{Kept}
+use Rattle.promises.proofs.Ends.{code-ends}
+use Rattle.promises.proofs.Routines.{code-refuses, code-table, code-joined, code-files, code-chain, code-listing}
 
 pub kept : Kept
 kept =
     record {
       demand-1 =
           record {
-            ends = pledges;
+            ends = code-ends;
             refuses = code-refuses;
             refused = refused;
             files-refused = files-refused;

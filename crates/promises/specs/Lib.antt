@@ -1,10 +1,2 @@
-pub mod Agrees
-pub mod Cases
-pub mod Demands
-pub mod Fakes
-pub mod History
-pub mod Implementation
-pub mod Listed
 pub mod Promise
 pub mod Routines
-pub mod WindowIs

@@ -1,27 +1,27 @@
 -- What the customer is promised, on one page: `Kept`, and its theorem is `kept` (proofs/Promise).
 --
 -- There are three layers, each with its own words, and two relations between them.
---     history        what the calls say happened: links with their slides, the clock, and the table of numbers (History)
---     definitions    what each call makes of a book, its log and whatever is lent, for every input: `ours` (Implementation)
+--     history        what the calls say happened: links with their slides, the clock, and the table of numbers (History, of the crate demands)
+--     definitions    what each call makes of a book, its log and whatever is lent, for every input: `ours` (Implementation, of demands)
 --     code           the exported routines, as the machine runs them (the crates kerb, kerb_file, and one for each call over a book)
--- The state that calls leave agrees with the history (Agrees), and the code gives what the definitions say (Pledges, of the crate
--- pledges). A demand is stated of the definitions, over any implementation, so that fakes can be held against it (Demands, Fakes); and of
+-- The state that calls leave agrees with the history (Agrees, of demands), and the code gives what the definitions say: its contracts say
+-- it (Pledges, of the crate pledges), and it meets them (Routines). A demand is stated of the definitions, over any implementation, so that
+-- fakes can be held against it (Demands, of demands; Fakes, of demands_fakes), the listing's over ours (Listed, of demands_listing); and of
 -- the code itself (Routines).
-use Rattle.pledges.specs.Pledges.{Pledges}
-use Rattle.promises.specs.Implementation.{ours}
-use Rattle.promises.specs.Agrees.{Agrees}
-use Rattle.promises.specs.Demands.{AfterCalls, Table, Refused, FilesRefused, NeverOpened, Joined, Files, Chain}
-use Rattle.promises.specs.Listed.{Listed}
-use Rattle.promises.specs.Routines.{CodeRefuses, CodeTable, CodeJoined, CodeFiles, CodeChain, CodeListed}
-use Rattle.promises.specs.Cases.{Cases}
+use Rattle.demands.specs.Implementation.{ours}
+use Rattle.demands.specs.Agrees.{Agrees}
+use Rattle.demands.specs.Demands.{AfterCalls, Table, Refused, FilesRefused, NeverOpened, Joined, Files, Chain}
+use Rattle.demands_cases.specs.Cases.{Cases}
+use Rattle.demands_listing.specs.Listed.{Listed}
 use Rattle.pledges.specs.Single.{Single}
+use Rattle.promises.specs.Routines.{CodeEnds, CodeRefuses, CodeTable, CodeJoined, CodeFiles, CodeChain, CodeListed}
 
 -- Every call ends and stays inside its memory for all inputs: bad settings, cells, ticks, files, short buffers, altered books. A refused
 -- call gives the number in the table and alters nothing lent to it.
 pub record Demand1 : Type 2 where
   -- of every exported call: it asks nothing of its caller; called with anything, its code ends, touches no memory but its own and what
   -- is lent to it, and gives what its definition says, which is the one result that its contract allows
-  pub ends : Pledges
+  pub ends : CodeEnds
   pub refuses : CodeRefuses
   -- the same of the definitions, with the log places that no call changes, and with records
   pub refused : Refused ours

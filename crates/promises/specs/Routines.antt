@@ -1,6 +1,6 @@
 -- The demands of the code itself: what each exported routine gives when it is called with anything at all, said of the arguments, the
--- result and the lent memory afterwards (a name with a stroke). The code gives what the definitions say (the crate pledges), so it
--- meets what is proved of the definitions.
+-- result and the lent memory afterwards (a name with a stroke). The code meets its contract, and the contract says what the definition
+-- says (the crate pledges); so the code meets what is proved of the definitions.
 use Prim.Native.Nat.{ℕ, _+_, _*_, _≤_}
 use mathlib.Core.Path.{_≡_}
 use mathlib.Core.Bool.{true, false}
@@ -27,13 +27,25 @@ use Rattle.file.proofs.Bytes.{AreBytes}
 use Rattle.file.proofs.Files.{FitsFields}
 use Rattle.file_play.specs.Record.{packNumber}
 use Rattle.listing.specs.Listing.{listingText, outputPlaces}
-use Rattle.pledges.specs.Exported.{CodeMeets}
+use Rattle.pledges.specs.Exported.{Exported, Definition, Met, Pledged, CodeMeets, Gives}
 use Rattle.pledges.specs.Calls.{openingCall, linkCall, clockCall, playCall, joinedCall, chainCall, groupsCall, readCall, writeCall, listCall, packCall, unpackCall}
-use Rattle.pledges.specs.Pledges.{with1, with2, with3, with4, with5}
-use Rattle.promises.specs.History.{Call, opening, link, clock, History, numberIn, windowOf}
-use Rattle.promises.specs.Implementation.{ours, State, after}
-use Rattle.promises.specs.Listed.{Plays, groupsOutcomeIn, Prints}
-use Rattle.promises.specs.Demands.{roomIn, HasHistory, Stopped, stepsIn, Answers}
+use Rattle.pledges.specs.Pledges.{with1, with2, with3, with4, with5, EachCall}
+use Rattle.demands.specs.History.{Call, opening, link, clock, History, numberIn, windowOf}
+use Rattle.demands.specs.Implementation.{ours, State, after}
+use Rattle.demands_listing.specs.Listed.{Plays, groupsOutcomeIn, Prints}
+use Rattle.demands.specs.Demands.{roomIn, HasHistory, Stopped, stepsIn, Answers}
+
+-- 1. an exported call ends: called with anything, its code ends, touches no memory but its own and what is lent to it, and gives what
+-- the definition says
+pub record Ends (f : Exported) (definition : Definition f) : Type 2 where
+  -- the code meets the contract, the contract says what the definition says
+  pub met : Met f
+  pub pledged : Pledged f definition
+  -- so what is returned and what is left are the definition's
+  pub code : CodeMeets f (Gives f definition)
+
+abbrev pub CodeEnds : Type 2
+CodeEnds = EachCall Ends
 
 -- with a number that is not 0
 abbrev pub Refusing : (number : ℕ) (unchanged : Type 0) → Type 0

@@ -1,1 +1,1 @@
-// No code: the demands as theorems about the definitions that the contracts cite. See specs/ and proofs/.
+// No code: the demands of the exported routines, and all that is promised as one theorem. See specs/ and proofs/.

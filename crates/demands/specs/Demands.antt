@@ -1,0 +1,226 @@
+-- What the customer demands of any implementation, after any calls from any book and log (RULES 10.5). A history is what the calls
+-- and the table tell (History); there is one once an opening has given 0.
+use Prim.Native.Nat.{ℕ, _+_, _*_, _≤_, _<_}
+use mathlib.Core.Path.{_≡_}
+use mathlib.Core.Logic.{_↔_}
+use mathlib.Core.Bool.{Bool, true, false}
+use mathlib.Core.List.{List, [], _∷_}
+use mathlib.Core.Option.{some}
+use lib.Dec.{eqb}
+use lib.ListN.{length, take, drop}
+use Rattle.numbers.specs.Kinds.{Bytes, Cell, Log}
+use Rattle.graph.specs.Link.{Chained, chains}
+use Rattle.graph.specs.Trail.{Best}
+use Rattle.graph.specs.Forest.{Forest, forestOf, walk, walkAt, parentAt}
+use Rattle.settings.specs.Settings.{takenNumber}
+use Rattle.settings.specs.declared.Settings.{Settings}
+use Rattle.slides.specs.Clock.{notBefore, slideOf, openSlide}
+use Rattle.book_state.specs.declared.Book.{Book}
+use Rattle.book_state.specs.Order.{neverOpened}
+use Rattle.book.specs.Calls.{linkOf, clockOf}
+use Rattle.book_joined.specs.declared.JoinedAnswer.{JoinedAnswer}
+use Rattle.book_joined.specs.Joined.{joinedOf}
+use Rattle.book_state.specs.Arrays.{stepLimit}
+use Rattle.numbers.specs.Checks.{firstOf, unless, has}
+use Rattle.numbers.specs.Front.{atFront}
+use Rattle.book_state.specs.Numbers.{logPlaces, areCells}
+use Rattle.file.specs.Layout.{endingSize, recordCount}
+use Rattle.file.specs.Format.{readNumber, readOf, writeNumber, outputOf}
+use Rattle.file.proofs.Bytes.{AreBytes}
+use Rattle.file.proofs.Files.{FitsFields}
+use Rattle.file_play.specs.Play.{Play, playFrom, playOf, recordGives}
+use Rattle.file_play.specs.Record.{packNumber, packedOf, recordOf}
+use Rattle.listing.specs.Listing.{listingOf}
+use Rattle.window_groups.specs.Call.{GroupsOutcome, groupsGiven}
+use Rattle.chain.specs.declared.ChainAnswer.{ChainAnswer}
+use Rattle.chain.specs.Chain.{ChainOutcome, chainPlaces, chainOf}
+use Rattle.demands.specs.History.{
+  Call,
+  opening,
+  clock,
+  History,
+  historyOf,
+  numberIn,
+  openSlideIn,
+  linksOf,
+  windowAt,
+  windowOf,
+  linksSince,
+  forwardLinks,
+  backwardLinks,
+  placeIn,
+}
+use Rattle.demands.specs.Implementation.{Implementation, State, gives, after, givesChain}
+
+-- the log has its 16,384 places (RULES 7.1, number 6)
+abbrev pub roomIn : State → Bool
+roomIn s = has logPlaces (s .log)
+
+-- the calls tell this history
+abbrev pub HasHistory : State → List Call → History → Type 0
+HasHistory s calls h = historyOf (roomIn s) calls ≡ some h
+
+-- something holds of the state that calls leave and of the history that they tell, whatever the calls and the state before them
+abbrev pub AfterCalls : (p : Implementation) (holds : State → History → Type 0) → Type 0
+AfterCalls p holds = (s : State) (cs : List Call) (h : History) → HasHistory s cs h → holds (after p s cs) h
+
+-- 0. the number that the book gives is the number that the history gives (RULES 7.1, 7.8); an opening's also where there is no
+-- history yet
+pub record Table (p : Implementation) : Type 0 where
+  pub openings : (s : State) (settings : Settings) →
+      gives p s (opening settings) .number ≡ firstOf (takenNumber settings ∷ unless (roomIn s) 6 ∷ [])
+  pub calls : AfterCalls p λ s h. (c : Call) → gives p s c .number ≡ numberIn (roomIn s) h c
+  pub asks : AfterCalls p λ s h. (one other : ℕ) → p .joinedGives (s .book) one other .number ≡ unless (areCells one other) 3
+
+-- 1. for every book, log and chain buffer, altered ones too: a number that is not 0 leaves them as they were and the other fields 0
+-- (RULES 7.4), and no call changes a log place from 16,384 on (RULES 7.5)
+pub record Refused (p : Implementation) : Type 0 where
+  pub kept : (s : State) (c : Call) → (gives p s c .number ≡ 0 → ⊥) → (gives p s c .book ≡ s .book) × (gives p s c .log ≡ s .log)
+  pub beyond : (s : State) (c : Call) → drop logPlaces (gives p s c .log) ≡ drop logPlaces (s .log)
+  pub unanswered : (b : Book) (one other : ℕ) →
+      let o : JoinedAnswer = p .joinedGives b one other in
+      (o .number ≡ 0 → ⊥) → o ≡ record { number = o .number; yes = false; steps = 0 }
+  pub unchained : (s : State) (chain : List ℕ) (one other : ℕ) →
+      let o : ChainOutcome = givesChain p s chain one other in
+      (o .answer .number ≡ 0 → ⊥) →
+      o ≡ record { answer = record { newest = 0; cells = 0; hold = 0; number = o .answer .number }; chain = chain }
+
+-- playing from record i on stopped at a refused record: the records before it were taken, `before` of them, the book and its log
+-- are as they left them, and the number is the link call's (RULES 6.6, 6.7)
+pub record Stopped (file : List ℕ) (i : ℕ) (b : Book) (log : List ℕ) (p : Play) : Type 0 where
+  pub before : ℕ
+  pub place : p .taken ≡ i + before
+  pub kept : playFrom file i before b log ≡ record { book = p .book; log = p .log; number = 0; taken = p .taken }
+  pub number : recordGives file (p .taken) (p .book) (p .log) .number ≡ p .number
+
+-- 1, for files, records and groups: a refusal leaves the other result fields 0 and lent buffers as they were (RULES 7.4); a file that the
+-- reader refuses is not played, and a record that is refused changes nothing (RULES 6.7)
+pub record FilesRefused : Type 0 where
+  pub read : (file : List ℕ) → (readNumber file ≡ 0 → ⊥) →
+      readOf file ≡ record { settings = record { t0 = 0; b = 0; n = 0; mounting = 0 }; m = 0; number = readNumber file }
+  pub write : (s : Settings) (records out : List ℕ) → (writeNumber s (length records) (length out) ≡ 0 → ⊥) → outputOf s records out ≡ out
+  pub play : (file : List ℕ) (m : ℕ) (b : Book) (log : List ℕ) → (playFrom file 0 m b log .number ≡ 0 → ⊥) →
+      Stopped file 0 b log (playFrom file 0 m b log)
+  pub unread : (file : List ℕ) (b : Book) (log : List ℕ) → (readNumber file ≡ 0 → ⊥) →
+      playOf file b log ≡ record { book = b; log = log; number = readNumber file; taken = 0 }
+  pub pack : (tick one other : ℕ) (out : List ℕ) → (packNumber (length out) ≡ 0 → ⊥) → packedOf tick one other out ≡ out
+  pub unpack : (records : List ℕ) (i : ℕ) → (recordOf records i .number ≡ 0 → ⊥) →
+      recordOf records i ≡ record { tick = 0; one = 0; other = 0; number = recordOf records i .number }
+  pub groups : (b : Book) (log first size hold : List ℕ) →
+      let o : GroupsOutcome = groupsGiven b log first size hold in
+      (o .answer .number ≡ 0 → ⊥) →
+      o ≡ record { answer = record { links = 0; number = o .answer .number }; first = first; size = size; hold = hold }
+  pub list : (file out : List ℕ) → (listingOf file out .answer .number ≡ 0 → ⊥) →
+      listingOf file out ≡ record { answer = record { length = 0; number = listingOf file out .answer .number }; output = out }
+
+-- the two forests of the history (RULES 3.4 to 3.9) and the cut (RULES 3.10)
+abbrev pub forwardForest : History → Forest
+forwardForest h = forestOf stepLimit (forwardLinks h)
+
+abbrev pub backwardForest : History → Forest
+backwardForest h = forestOf stepLimit (backwardLinks h)
+
+abbrev pub cutIn : History → ℕ
+cutIn h = placeIn h + 1
+
+-- a cell's steps in the two forests (RULES 3.12)
+abbrev pub backwardStepCount : (history : History) (cell : Cell) → ℕ
+backwardStepCount h c = walkAt stepLimit (backwardForest h) (cutIn h) c .steps
+
+abbrev pub forwardStepCount : (history : History) (cell : Cell) → ℕ
+forwardStepCount h c = walk stepLimit (forwardForest h) c .steps
+
+-- the count of steps: two walks for each of the two cells (RULES 3.13)
+abbrev pub stepsIn : (history : History) (one other : Cell) → ℕ
+stepsIn h one other = backwardStepCount h one + backwardStepCount h other + forwardStepCount h one + forwardStepCount h other
+
+-- both walks of a cell end, after 10 steps at most: where they stop there is no further step to take (RULES 3.12)
+pub record WalksEnd (h : History) (c : ℕ) : Type 0 where
+  pub backward : parentAt (backwardForest h) (cutIn h) (walkAt stepLimit (backwardForest h) (cutIn h) c .root) ≡ walkAt stepLimit (backwardForest h) (cutIn h) c .root
+  pub forward : forwardForest h .parent (walk stepLimit (forwardForest h) c .root) ≡ walk stepLimit (forwardForest h) c .root
+  pub backward-short : backwardStepCount h c ≤ 10
+  pub forward-short : forwardStepCount h c ≤ 10
+
+-- 2. joined: yes exactly when the two are the same or links of the current window chain them (RULES 4.4); the count of steps is that
+-- of the four walks, never above 40 (RULES 3.13)
+pub record Joined (p : Implementation) : Type 0 where
+  pub chained : AfterCalls p λ s h. (one other : ℕ) → areCells one other ≡ true →
+      (p .joinedGives (s .book) one other .yes ≡ true) ↔ Chained (windowOf h) one other
+  pub steps : AfterCalls p λ s h. (one other : ℕ) → areCells one other ≡ true →
+      p .joinedGives (s .book) one other .steps ≡ stepsIn h one other
+  pub few : AfterCalls p λ s h. (one other : ℕ) → p .joinedGives (s .book) one other .steps ≤ 40
+  pub ends : AfterCalls p λ s h. (c : ℕ) → WalksEnd h c
+
+-- 2, for files: what the writer wrote the reader reads back, records and all; what the reader takes, written again, has the same bytes
+-- (RULES 6.5). Settings have fields of 32 bits, and a file is of bytes
+pub record Files : Type 0 where
+  pub there : (s : Settings) (records out : Bytes) → FitsFields s → writeNumber s (length records) (length out) ≡ 0 →
+      let m : ℕ = recordCount (length records) in
+      (readOf (take (8 * m + endingSize) (outputOf s records out)) ≡ record { settings = s; m = m; number = 0 })
+      × (take (8 * m) (outputOf s records out) ≡ records)
+  pub back : (file out : Bytes) → AreBytes file → readOf file .number ≡ 0 → length file ≤ length out →
+      let records : Bytes = take (8 * readOf file .m) file in
+      (writeNumber (readOf file .settings) (length records) (length out) ≡ 0) × (outputOf (readOf file .settings) records out ≡ atFront file out)
+
+-- what a chain call that gives 0 hands back: at the front of the buffer a chain from the first cell to the second over links of
+-- slides L to k (RULES 5.2), with the fewest links, and among those the first by cell numbers (RULES 5.3); later places keep what
+-- they had (RULES 5.9). Hold = L + n - 1 - k (RULES 5.5)
+pub record ChainGiven (h : History) (chain : List ℕ) (one other : ℕ) (o : ChainOutcome) : Type 0 where
+  pub best : Best (linksSince h (o .answer .newest)) one other (take (o .answer .cells) (o .chain))
+  pub long : length (take (o .answer .cells) (o .chain)) ≡ o .answer .cells
+  pub rest : drop (o .answer .cells) (o .chain) ≡ drop (o .answer .cells) chain
+  pub hold : o .answer .hold + openSlideIn h + 1 ≡ o .answer .newest + h .clock .n
+
+-- two different cells: L is the largest slide such that links of slides L to k chain them (RULES 5.1), and the two stay joined for
+-- as many further closings as the hold says if nothing is logged, and not for one more (RULES 5.5, 5.7)
+pub record DifferentCells (p : Implementation) (s : State) (h : History) (one other : ℕ) (answer : ChainAnswer) : Type 0 where
+  pub chained : Chained (linksSince h (answer .newest)) one other
+  pub largest : (l : ℕ) → answer .newest < l → Chained (linksSince h l) one other → ⊥
+  pub few : answer .hold < h .clock .n
+  -- a closing raises k by one, even where no tick could still reach that slide (RULES 5.6)
+  pub closings : (c : ℕ) → Chained (linksOf (windowAt h (openSlideIn h + c))) one other ↔ (c ≤ answer .hold)
+  -- where a tick does reach it, joined gives the same answer after the clock call with that tick
+  pub clocks : (c tick : ℕ) → slideOf (h .clock) tick ≡ openSlideIn h + c → notBefore (h .clock) tick ≡ true →
+      (p .joinedGives (gives p s (clock tick) .book) one other .yes ≡ true) ↔ (c ≤ answer .hold)
+
+-- for a cell and itself the chain is that one cell, L is taken as k + 1, and the hold is n, read as "always" (RULES 5.8)
+pub record Itself (h : History) (one : ℕ) (o : ChainOutcome) : Type 0 where
+  pub newest : o .answer .newest ≡ openSlideIn h + 1
+  pub hold : o .answer .hold ≡ h .clock .n
+  pub cell : take (o .answer .cells) (o .chain) ≡ one ∷ []
+
+-- what is given for two cells and a chain buffer that is long enough: 7 exactly when links of the current window do not chain the two
+-- (RULES 5.10), otherwise 0; and joined says yes exactly when the chain call gives 0
+pub record Answers (p : Implementation) (s : State) (h : History) (chain : List ℕ) (one other : ℕ) (o : ChainOutcome) : Type 0 where
+  pub no-trail : (o .answer .number ≡ 7) ↔ (Chained (windowOf h) one other → ⊥)
+  pub done : (o .answer .number ≡ 0) ↔ Chained (windowOf h) one other
+  pub joins : (p .joinedGives (s .book) one other .yes ≡ true) ↔ (o .answer .number ≡ 0)
+  pub handed : o .answer .number ≡ 0 → ChainGiven h chain one other o
+  pub different : o .answer .number ≡ 0 → (one ≡ other → ⊥) → DifferentCells p s h one other (o .answer)
+  pub itself : one ≡ other → Itself h one o
+
+-- 3. chain: the number is 6 for a chain buffer that is too short, else 3 where one of the two is no cell, else 7 where there is no
+-- trail, and never 1 or 8 (RULES 7.2, 7.8, 5.11); 8 not from an altered book or log either; and what it answers
+pub record Chain (p : Implementation) : Type 0 where
+  pub number : AfterCalls p λ s h. (chain : List ℕ) (one other : ℕ) →
+      givesChain p s chain one other .answer .number
+      ≡ firstOf
+      (unless (has chainPlaces chain) 6
+      ∷ unless (areCells one other) 3
+      ∷ unless (chains (windowOf h) one other) 7
+      ∷ [])
+  pub never-8 : (s : State) (chain : List ℕ) (one other : ℕ) → givesChain p s chain one other .answer .number ≡ 8 → ⊥
+  pub answers : AfterCalls p λ s h. (chain : List ℕ) → has chainPlaces chain ≡ true → (one other : ℕ) → areCells one other ≡ true →
+      Answers p s h chain one other (givesChain p s chain one other)
+
+-- a book that was never opened: all but playing give 1, whatever the log; playing gives it at record 0, where there is one, and its
+-- open slide is 0 (RULES 7.8). A file that the reader refuses is not played (FilesRefused)
+pub record NeverOpened : Type 0 where
+  pub link : (log : Log) (tick one other : ℕ) → linkOf neverOpened log tick one other .number ≡ 1
+  pub clock : (log : Log) (tick : ℕ) → clockOf neverOpened log tick .number ≡ 1
+  pub joined : (one other : ℕ) → joinedOf neverOpened one other .number ≡ 1
+  pub chain : (log chain : List ℕ) (one other : ℕ) → chainOf neverOpened log chain one other .answer .number ≡ 1
+  pub groups : (log first size hold : List ℕ) → groupsGiven neverOpened log first size hold .answer .number ≡ 1
+  pub play : (file : Bytes) (log : Log) → readNumber file ≡ 0 →
+      playOf file neverOpened log ≡ record { book = neverOpened; log = log; number = unless (eqb (readOf file .m) 0) 1; taken = 0 }
+  pub open-slide : openSlide (neverOpened .clock) ≡ 0

@@ -1,0 +1,5 @@
+pub mod Agrees
+pub mod Demands
+pub mod History
+pub mod Implementation
+pub mod WindowIs

@@ -1,0 +1,9 @@
+pub mod Listed
+pub mod ListedCalls
+pub mod ListedCount
+pub mod ListedExample
+pub mod ListedGroups
+pub mod ListedLines
+pub mod ListedMeans
+pub mod ListedPrints
+pub mod ListedRecords
