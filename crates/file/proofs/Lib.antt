@@ -2,4 +2,3 @@ pub mod Bytes
 pub mod Cases
 pub mod Files
 pub mod Laws
-pub mod Records

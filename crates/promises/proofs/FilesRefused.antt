@@ -14,7 +14,7 @@ use Rattle.book.specs.Calls.{Outcome}
 use Rattle.file.specs.Layout.{recordBytes, tickAt, oneAt, otherAt}
 use Rattle.file.specs.Format.{ending, readNumber, readAnswer, readOf}
 use Rattle.file_play.specs.Play.{Play, recordGives, playByNumber, playFrom, fileByNumber, playOf}
-use Rattle.file_play.specs.Record.{recordIf}
+use Rattle.file_record.specs.Record.{recordIf}
 use Rattle.listing.specs.Listing.{listedIf, listingOf}
 use Rattle.numbers.specs.Checks.{unless}
 use Rattle.numbers.specs.Front.{atFront}

@@ -18,7 +18,7 @@ use Rattle.file.specs.Format.{readNumber, readOf}
 use Rattle.file.proofs.Files.{written-then-read, read-then-written}
 use Rattle.file_play.specs.Play.{Play, playFrom, fileByNumber, playOf}
 use Rattle.file_play.specs.declared.PlayAnswer.{PlayAnswer}
-use Rattle.file_play.specs.Record.{recordIf}
+use Rattle.file_record.specs.Record.{recordIf}
 use Rattle.listing.specs.Listing.{listedIf, listingOf}
 use Rattle.pledges.proofs.Exported.{demanded}
 use Rattle.pledges.proofs.Pledges.{pledges}

@@ -29,7 +29,7 @@ use Rattle.file.specs.Format.{readNumber, readOf, writeNumber, outputOf}
 use Rattle.file.proofs.Bytes.{AreBytes}
 use Rattle.file.proofs.Files.{FitsFields}
 use Rattle.file_play.specs.Play.{Play, playFrom, playOf, recordGives}
-use Rattle.file_play.specs.Record.{packNumber, packedOf, recordOf}
+use Rattle.file_record.specs.Record.{packNumber, packedOf, recordOf}
 use Rattle.listing.specs.Listing.{listingOf}
 use Rattle.window_groups.specs.Call.{GroupsOutcome, groupsGiven}
 use Rattle.chain.specs.declared.ChainAnswer.{ChainAnswer}

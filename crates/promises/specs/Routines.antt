@@ -25,7 +25,7 @@ use Rattle.file.specs.Layout.{endingSize, recordCount}
 use Rattle.file.specs.Format.{readNumber, readOf, writeNumber, outputOf}
 use Rattle.file.proofs.Bytes.{AreBytes}
 use Rattle.file.proofs.Files.{FitsFields}
-use Rattle.file_play.specs.Record.{packNumber}
+use Rattle.file_record.specs.Record.{packNumber}
 use Rattle.listing.specs.Listing.{listingText, outputPlaces}
 use Rattle.pledges.specs.Exported.{CodeMeets}
 use Rattle.pledges.specs.Calls.{openingCall, linkCall, clockCall, playCall, joinedCall, chainCall, groupsCall, readCall, writeCall, listCall, packCall, unpackCall}

@@ -1,8 +1,10 @@
 // Whether number 1 can come from a book, whatever links it takes (RULES 7.8, 3.5).
 //
 // Not from one that is in order and whose forward forest has the sizes that links make: each step at least doubles the size, and the
-// trees have all cells between them. A link keeps it so, and a forest that time makes is made of links. Every book that calls
-// have left is such a book; one that was altered need not be.
+// trees have all cells between them. Such a book stays in order (`linked-steady` in proofs/StaysInOrder.antt): a link keeps the sizes so,
+// and a forest that time makes is made of links. Any other book has to be asked number 1 at each link, as the link call does; so no answer
+// depends on this, only time does.
+use book_state::CELLS;
 use book_state::order;
 use cells::Fitting;
 use forest::PLACES;
@@ -11,7 +13,7 @@ ghost use mathlib.Core.Path.{_≡_};
 ghost use mathlib.Core.Bool.{true};
 ghost use Rattle.book_state.specs.Arrays.{stepLimit};
 ghost use Rattle.forest_check.specs.Sound.{soundOf};
-ghost use Rattle.file_play.specs.Steady.{grownOf, steadyOf};
+ghost use Rattle.book_steady.specs.Steady.{grownOf, steadyOf};
 
 // Whether the book with these fields is in order and stays so.
 pub fn steady<'a>(
@@ -65,5 +67,5 @@ fn grown<'a>(parent: &'a [u16], size: &'a [u16]) -> bool
         }
         i += 1;
     }
-    cells == 1024
+    cells == CELLS as u32
 }

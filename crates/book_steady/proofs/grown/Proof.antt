@@ -1,4 +1,4 @@
--- `file_play::steady::grown` meets its contract: a pass over the cells (crates/forest_check/proofs/Every.antt) that stops at a size that
+-- `book_steady::grown` meets its contract: a pass over the cells (crates/forest_check/proofs/Every.antt) that stops at a size that
 -- does not double, and adds up the roots' sizes. Each is at most 1,024, so their sum is a 32-bit number.
 use Prim.Native.Nat.{ℕ, _+_, _-_, _*_, _≤_, _<_}
 use mathlib.Core.Path.{_≡_, refl, sym, ap, _∙_}
@@ -15,9 +15,9 @@ use Rattle.forest.proofs.Ranged.{Ranged}
 use Rattle.forest_check.specs.Sound.{every, doublesAt}
 use Rattle.forest_check.proofs.Every.{Tested, tested-none, tested-more, tested-all, struck, kept}
 use Rattle.forest_check.proofs.Facts.{sound-long, sound-ranged}
-use Rattle.file_play.specs.Steady.{rootCells}
-use Rattle.file_play.proofs.steady.grown.Statement.{statement}
-use Rattle.file_play.proofs.steady.grown.Tie as tie
+use Rattle.book_steady.specs.Steady.{rootCells}
+use Rattle.book_steady.proofs.grown.Statement.{statement}
+use Rattle.book_steady.proofs.grown.Tie as tie
 
 -- the cells before i are tested, and the sizes of their roots are added up
 record Counted (ps ss : List ℕ) (sum i : ℕ) : Type 0 where
@@ -164,6 +164,9 @@ loop-again-2 c =
     let d = e .before .before .before in
     step-more (long d) (ranged d) (d .before .loop .inv) (inside d) (e .if2 .left) (c .if3 .left)
 
+cast-result : tie.Need-cast-result Inv-loop μ-loop
+cast-result c = search needs
+
 returns-3 : tie.Need-returns-3 Inv-loop μ-loop
 returns-3 c =
     let on = c .before .loop .inv in
@@ -197,4 +200,5 @@ grown-spec =
     add-i-2
     loop-less-2
     loop-again-2
+    cast-result
     returns-3)

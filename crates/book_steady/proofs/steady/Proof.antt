@@ -1,11 +1,11 @@
--- `file_play::steady::steady` meets its contract: each test is one of the definition's.
+-- `book_steady::steady` meets its contract: each test is one of the definition's.
 use mathlib.Core.Path.{_≡_, sym, _∙_}
 use borrow.Author.Needs.{needs}
 use borrow.Author.Tests.{not-true, not-false}
 use Rattle.book_state.proofs.Checks.{ordered}
-use Rattle.file_play.specs.Steady.{steadyOf}
-use Rattle.file_play.proofs.steady.steady.Statement.{statement}
-use Rattle.file_play.proofs.steady.steady.Tie as tie
+use Rattle.book_steady.specs.Steady.{steadyOf}
+use Rattle.book_steady.proofs.steady.Statement.{statement}
+use Rattle.book_steady.proofs.steady.Tie as tie
 
 in-order-requires : tie.Need-in-order-requires
 in-order-requires c κs = search needs

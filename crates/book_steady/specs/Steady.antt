@@ -1,4 +1,4 @@
--- When number 1 cannot come from a book, whatever links it takes. Playing asks this once, and then number 1 at no record.
+-- When number 1 cannot come from a book, whatever links it takes. Playing a file asks this once, and then number 1 at no record.
 use Prim.Native.Nat.{ℕ, zero, suc, _+_}
 use mathlib.Core.Bool.{Bool, cond, _&&_}
 use lib.Dec.{eqb}
@@ -8,6 +8,7 @@ use Rattle.cells.specs.declared.Fitting.{Fitting}
 use Rattle.slides.specs.declared.Clock.{Clock}
 use Rattle.forest.specs.Arrays.{places, parentIn, sizeIn}
 use Rattle.forest_check.specs.Sound.{every, doublesAt}
+use Rattle.book_state.specs.Arrays.{cells}
 use Rattle.book_state.specs.Order.{inOrderOf}
 
 -- the sizes of the roots below n, together
@@ -18,7 +19,7 @@ rootCells ps ss (suc n) = rootCells ps ss n + cond (eqb (parentIn ps n) n) (size
 -- a forest of all cells with sizes that links make (RULES 3.5): each tree but a root's has at most half the cells of its parent's, and the
 -- roots' trees have all cells between them
 abbrev pub grownOf : (parents : Parents) (sizes : Sizes) → Bool
-grownOf ps ss = eqb (length ps) places && every (doublesAt ss) 0 ps && eqb (rootCells ps ss places) places
+grownOf ps ss = eqb (length ps) places && every (doublesAt ss) 0 ps && eqb (rootCells ps ss places) cells
 
 -- the book of these fields is in order and stays so
 unfoldable pub steadyOf : (clock : Clock) (fitting : Fitting) (counts : Counts) (forwardParent : Parents) (forwardSize : Sizes) (backwardParent : Parents) (backwardSize : Sizes) (backwardLabel : Labels) → Bool
