@@ -19,12 +19,12 @@ ghost use Rattle.book_steady.specs.Steady.{grownOf, steadyOf};
 pub fn steady<'a>(
     clock: Clock,
     fitting: Fitting,
-    counts: &'a [u16],
-    forward_parent: &'a [u16],
-    forward_size: &'a [u16],
-    backward_parent: &'a [u16],
-    backward_size: &'a [u16],
-    backward_label: &'a [u8],
+    counts: &'a [u16; 32],
+    forward_parent: &'a [u16; PLACES],
+    forward_size: &'a [u16; PLACES],
+    backward_parent: &'a [u16; PLACES],
+    backward_size: &'a [u16; PLACES],
+    backward_label: &'a [u8; PLACES],
 ) -> bool
     ensures { λ r. ⌜ r ≡ steadyOf clock fitting (now (counts .entry)) (now («forward_parent» .entry)) (now («forward_size» .entry)) (now («backward_parent» .entry)) (now («backward_size» .entry)) (now («backward_label» .entry)) ⌝ }
 {

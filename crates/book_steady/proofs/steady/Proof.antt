@@ -15,11 +15,11 @@ unfolding steadyOf
 returns c = simp (sym (c .before .in-order .ensures) ∙ not-true _ (c .if1 .taken))
 
 grown-requires : tie.Need-grown-requires
-grown-requires c κs = ordered _ (sym (c .before .in-order .ensures) ∙ not-false _ (c .if1 .left)) .forward
+grown-requires c κs = ordered _ (sym (c .before .before .before .in-order .ensures) ∙ not-false _ (c .before .before .if1 .left)) .forward
 
 returns-2 : tie.Need-returns-2
 unfolding steadyOf
-returns-2 c = simp (sym (c .before .before .in-order .ensures) ∙ not-false _ (c .before .if1 .left), c .grown .ensures)
+returns-2 c = simp (sym (c .before .before .before .before .in-order .ensures) ∙ not-false _ (c .before .before .before .if1 .left), c .grown .ensures)
 
 pub steady-spec : {M : Type 1} → statement M
 steady-spec = tie.close (tie.spec in-order-requires returns grown-requires returns-2)
