@@ -1,4 +1,3 @@
 pub mod Bytes
 pub mod Cases
-pub mod Files
 pub mod Laws

@@ -8,7 +8,8 @@ use mathlib.Core.List.{List}
 use native.Mathlib.Omega.{arith}
 use lib.Dec.{leb}
 use lib.ListN.{length}
-use Rattle.file.proofs.Files.{refused-read, refused-write}
+use Rattle.file.proofs.Laws.{refused-read}
+use Rattle.file_write.proofs.Files.{refused-write}
 use Rattle.book_state.specs.declared.Book.{Book}
 use Rattle.book.specs.Calls.{Outcome}
 use Rattle.file.specs.Layout.{recordBytes, tickAt, oneAt, otherAt}

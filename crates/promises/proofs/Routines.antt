@@ -15,7 +15,7 @@ use Rattle.book_state.specs.Order.{inOrder}
 use Rattle.window_groups.specs.Groups.{groupsOf}
 use Rattle.window_groups.specs.Call.{groupsNumberIn, groupsByNumber, groupsGiven}
 use Rattle.file.specs.Format.{readNumber, readOf}
-use Rattle.file.proofs.Files.{written-then-read, read-then-written}
+use Rattle.file_write.proofs.Files.{written-then-read, read-then-written}
 use Rattle.file_play.specs.Play.{Play, playFrom, fileByNumber, playOf}
 use Rattle.file_play.specs.declared.PlayAnswer.{PlayAnswer}
 use Rattle.file_record.specs.Record.{recordIf}

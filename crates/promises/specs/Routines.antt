@@ -21,10 +21,9 @@ use Rattle.book_joined.specs.Joined.{joinedNumber}
 use Rattle.book.specs.Calls.{openingNumber, linkNumber, clockNumber}
 use Rattle.chain.specs.Chain.{chainPlaces, chainNumber}
 use Rattle.window_groups.specs.Call.{GroupsOutcome, groupsNumberIn}
-use Rattle.file.specs.Layout.{endingSize, recordCount}
-use Rattle.file.specs.Format.{readNumber, readOf, writeNumber, outputOf}
-use Rattle.file.proofs.Bytes.{AreBytes}
-use Rattle.file.proofs.Files.{FitsFields}
+use Rattle.file.specs.Layout.{AreBytes, FitsFields, endingSize, recordCount}
+use Rattle.file.specs.Format.{readNumber, readOf}
+use Rattle.file_write.specs.Writer.{writeNumber, outputOf}
 use Rattle.file_record.specs.Record.{packNumber}
 use Rattle.listing.specs.Listing.{listingText, outputPlaces}
 use Rattle.pledges.specs.Exported.{CodeMeets}

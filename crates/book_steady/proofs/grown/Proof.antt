@@ -14,7 +14,7 @@ use Rattle.forest.proofs.Fill.{getD-within}
 use Rattle.forest.proofs.Ranged.{Ranged}
 use Rattle.forest_check.specs.Sound.{every, doublesAt}
 use Rattle.forest_check.proofs.Every.{Tested, tested-none, tested-more, tested-all, struck, kept}
-use Rattle.forest_check.proofs.Facts.{sound-long, sound-ranged}
+use Rattle.forest_check.proofs.Facts.{sound-ranged}
 use Rattle.book_steady.specs.Steady.{rootCells}
 use Rattle.book_steady.proofs.grown.Statement.{statement}
 use Rattle.book_steady.proofs.grown.Tie as tie

@@ -1,5 +1,5 @@
 -- `book_steady::steady` meets its contract: each test is one of the definition's.
-use mathlib.Core.Path.{_≡_, sym, _∙_}
+use mathlib.Core.Path.{sym, _∙_}
 use borrow.Author.Needs.{needs}
 use borrow.Author.Tests.{not-true, not-false}
 use Rattle.book_state.proofs.Checks.{ordered}
