@@ -8,14 +8,15 @@ use mathlib.Core.List.{List}
 use native.Mathlib.Omega.{arith}
 use lib.Dec.{leb}
 use lib.ListN.{length}
-use Rattle.file.proofs.Files.{refused-read, refused-write}
+use Rattle.file.proofs.Laws.{refused-read}
+use Rattle.file_write.proofs.Files.{refused-write}
 use Rattle.book_state.specs.declared.Book.{Book}
 use Rattle.book_state.specs.Order.{inOrder}
 use Rattle.book.specs.Calls.{Outcome}
 use Rattle.file.specs.Layout.{recordBytes, tickAt, oneAt, otherAt}
 use Rattle.file.specs.Format.{ending, readNumber, readAnswer, readOf}
 use Rattle.file_play.specs.Play.{Play, recordGives, playByNumber, playFrom, fileByNumber, playOf}
-use Rattle.file_play.specs.Record.{recordIf}
+use Rattle.file_record.specs.Record.{recordIf}
 use Rattle.listing.specs.Listing.{listedIf, listingOf}
 use Rattle.numbers.specs.Checks.{unless}
 use Rattle.numbers.specs.Front.{atFront}

@@ -24,12 +24,11 @@ use Rattle.book_state.specs.Arrays.{stepLimit}
 use Rattle.numbers.specs.Checks.{firstOf, unless, has}
 use Rattle.numbers.specs.Front.{atFront}
 use Rattle.book_state.specs.Numbers.{logPlaces, areCells}
-use Rattle.file.specs.Layout.{endingSize, recordCount}
-use Rattle.file.specs.Format.{readNumber, readOf, writeNumber, outputOf}
-use Rattle.file.proofs.Bytes.{AreBytes}
-use Rattle.file.proofs.Files.{FitsFields}
+use Rattle.file.specs.Layout.{AreBytes, FitsFields, endingSize, recordCount}
+use Rattle.file.specs.Format.{readNumber, readOf}
+use Rattle.file_write.specs.Writer.{writeNumber, outputOf}
 use Rattle.file_play.specs.Play.{Play, playFrom, playOf, recordGives}
-use Rattle.file_play.specs.Record.{packNumber, packedOf, recordOf}
+use Rattle.file_record.specs.Record.{packNumber, packedOf, recordOf}
 use Rattle.listing.specs.Listing.{listingOf}
 use Rattle.window_groups.specs.Call.{GroupsOutcome, groupsGiven}
 use Rattle.chain.specs.declared.ChainAnswer.{ChainAnswer}

@@ -10,7 +10,7 @@ use native.Mathlib.Nat.{zero-add}
 use native.Mathlib.Omega.{arith}
 use lib.ListN.{take}
 use Rattle.file.specs.Format.{readNumber, readOf}
-use Rattle.file.proofs.Files.{read-number}
+use Rattle.file.proofs.Laws.{read-number}
 use Rattle.book.specs.Calls.{Outcome}
 use Rattle.file_play.specs.Play.{Play, recordGives, playByNumber, playFrom, fileByNumber, playOf}
 use Rattle.demands.specs.History.{History, numberIn, added, addedByNumber}

@@ -19,7 +19,7 @@ use Rattle.forest.specs.Arrays.{countFrom}
 use Rattle.book_state.specs.Arrays.{cells}
 use Rattle.file.specs.Layout.{fromLittleEndian, settingsOf}
 use Rattle.file.specs.Format.{recordsFit, lengthFits, same, lettersStand, offsetAgrees, padsZero, readNumber, readOf}
-use Rattle.file.proofs.Files.{read-number}
+use Rattle.file.proofs.Laws.{read-number}
 use Rattle.window_groups.specs.Groups.{filter, smallest, leastWith, leastOver}
 use Rattle.text.specs.Text.{digits, decimal, fields, line}
 use Rattle.listing.specs.Lines.{linksWord, groupWord, groupLineIf, linesOf}

@@ -14,7 +14,7 @@ use Rattle.numbers.proofs.Checks.{has-front}
 use Rattle.settings.specs.Settings.{takenNumber}
 use Rattle.settings.specs.declared.Settings.{Settings}
 use Rattle.file.specs.Format.{readNumber, readOf}
-use Rattle.file.proofs.Files.{read-number}
+use Rattle.file.proofs.Laws.{read-number}
 use Rattle.graph.proofs.Forests.{nothing-linked}
 use Rattle.slides.proofs.Slides.{started-slide}
 use Rattle.book_state.specs.Arrays.{cells}

@@ -17,11 +17,9 @@ use Rattle.settings.specs.declared.Settings.{Settings}
 use Rattle.forest.specs.Arrays.{countFrom}
 use Rattle.book_state.specs.Arrays.{cells}
 use Rattle.file.specs.Format.{readNumber, readOf}
-use Rattle.file.specs.Layout.{recordBytes, tickAt, oneAt, otherAt}
-use Rattle.file.proofs.Bytes.{AreBytes}
-use Rattle.file.proofs.Records.{FitsRecord}
+use Rattle.file.specs.Layout.{AreBytes, recordBytes, tickAt, oneAt, otherAt}
 use Rattle.file_play.specs.Play.{Play, playOf}
-use Rattle.file_play.specs.Record.{packedOf, recordOf}
+use Rattle.file_record.specs.Record.{FitsRecord, packedOf, recordOf}
 use Rattle.window_groups.specs.declared.Groups.{Groups}
 use Rattle.window_groups.specs.Groups.{filter, smallest, leastOver, ofCells}
 use Rattle.window_groups.specs.Call.{GroupsOutcome, groupsByNumber, groupsGiven}

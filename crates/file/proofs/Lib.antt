@@ -1,5 +1,3 @@
 pub mod Bytes
 pub mod Cases
-pub mod Files
 pub mod Laws
-pub mod Records

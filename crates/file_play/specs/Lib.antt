@@ -1,3 +1,1 @@
 pub mod Play
-pub mod Record
-pub mod Steady

@@ -4,13 +4,12 @@
 // the call's name; those over whole link files are in `kerb_file`. The archive libkerb.a is made of them all.
 use book_state::Book;
 use cells::Fitting;
-use file_play::records;
-use file_play::records::RecordAnswer;
+use file_record::RecordAnswer;
 ghost use mathlib.Core.Path.{_≡_};
 ghost use lib.ListN.{length, replicate};
 ghost use Rattle.cells.specs.Cell.{sectors, ringOf, sectorOf, lorryCell, unitCell};
 ghost use Rattle.book_state.specs.Order.{neverOpened};
-ghost use Rattle.file_play.specs.Record.{packNumber, packedOf, recordOf};
+ghost use Rattle.file_record.specs.Record.{packNumber, packedOf, recordOf};
 ghost use Rattle.kerb.specs.Interface.{version, bookSize};
 
 // A book that was never opened: no call over a book does more with it than to say so (RULES 7.8).
@@ -27,7 +26,7 @@ pub extern "C" fn kerb_pack(tick: u32, one: u16, other: u16, out: &mut [u8]) -> 
     ensures number { λ r. ⌜ r ≡ packNumber (length (now (out .entry))) ⌝ }
     ensures output { λ _. ⌜ now (out .exit) ≡ packedOf tick one other (now (out .entry)) ⌝ }
 {
-    records::pack(tick, one, other, out)
+    file_record::pack(tick, one, other, out)
 }
 
 // Record i of these bytes (RULES 6.2).
@@ -35,7 +34,7 @@ pub extern "C" fn kerb_pack(tick: u32, one: u16, other: u16, out: &mut [u8]) -> 
 pub extern "C" fn kerb_unpack(records: &[u8], i: u32) -> RecordAnswer
     ensures { λ r. ⌜ r ≡ recordOf (now (records .entry)) i ⌝ }
 {
-    records::unpack(records, i)
+    file_record::unpack(records, i)
 }
 
 // The lorry's number of a unit's cell, by the mounting, and the way back (RULES 1.3 to 1.7).

@@ -5,7 +5,8 @@ use listing::ListAnswer;
 use settings::Settings;
 ghost use mathlib.Core.Path.{_≡_};
 ghost use lib.ListN.{length};
-ghost use Rattle.file.specs.Format.{readOf, writeNumber, outputOf};
+ghost use Rattle.file.specs.Format.{readOf};
+ghost use Rattle.file_write.specs.Writer.{writeNumber, outputOf};
 ghost use Rattle.listing.specs.Listing.{listingOf, GivesListing};
 
 // The settings of a link file, and how many records it has.
@@ -22,7 +23,7 @@ pub extern "C" fn kerb_write(s: Settings, records: &[u8], out: &mut [u8]) -> u8
     ensures number { λ r. ⌜ r ≡ writeNumber s (length (now (records .entry))) (length (now (out .entry))) ⌝ }
     ensures output { λ _. ⌜ now (out .exit) ≡ outputOf s (now (records .entry)) (now (out .entry)) ⌝ }
 {
-    file::write(s, records, out)
+    file_write::write(s, records, out)
 }
 
 // What kerblist prints for a link file, at the front of the output.

@@ -8,9 +8,10 @@ use Rattle.book_state.specs.Order.{neverOpened}
 use Rattle.book_joined.specs.Joined.{joinedOf}
 use Rattle.book.specs.Calls.{Outcome, openingOf, linkOf, clockOf}
 use Rattle.chain.specs.Chain.{ChainOutcome, chainOf}
-use Rattle.file.specs.Format.{readOf, writeNumber, outputOf}
+use Rattle.file.specs.Format.{readOf}
 use Rattle.file_play.specs.Play.{Play, playOf}
-use Rattle.file_play.specs.Record.{packNumber, packedOf, recordOf}
+use Rattle.file_record.specs.Record.{packNumber, packedOf, recordOf}
+use Rattle.file_write.specs.Writer.{writeNumber, outputOf}
 use Rattle.listing.specs.Listing.{Listing, listingOf}
 use Rattle.window_groups.specs.Call.{GroupsOutcome, groupsGiven}
 use Rattle.kerb.specs.Interface.{version, bookSize}

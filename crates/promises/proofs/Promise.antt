@@ -1,5 +1,5 @@
 -- The one theorem: all that the customer is promised is kept.
-use Rattle.file.proofs.Files.{written-then-read, read-then-written}
+use Rattle.file_write.proofs.Files.{written-then-read, read-then-written}
 use Rattle.demands.proofs.ChainIs.{chain}
 use Rattle.demands.proofs.FilesRefused.{files-refused}
 use Rattle.demands.proofs.JoinedIs.{joined}

@@ -11,9 +11,9 @@ use denote.Ref.{now}
 use Rattle.numbers.specs.Front.{atFront}
 use Rattle.book_state.specs.declared.Book.{Book}
 use Rattle.file.specs.Format.{readOf}
-use Rattle.file.proofs.Files.{written-then-read, read-then-written}
 use Rattle.file_play.specs.Play.{Play}
 use Rattle.file_play.specs.declared.PlayAnswer.{PlayAnswer}
+use Rattle.file_write.proofs.Files.{written-then-read, read-then-written}
 use Rattle.listing.specs.Listing.{listedIf, listingOf}
 use Rattle.demands.specs.History.{opening, link, clock, History}
 use Rattle.demands.specs.Implementation.{gives}

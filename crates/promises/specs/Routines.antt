@@ -21,11 +21,10 @@ use Rattle.book_joined.specs.Joined.{joinedNumber}
 use Rattle.book.specs.Calls.{openingNumber, linkNumber, clockNumber}
 use Rattle.chain.specs.Chain.{chainPlaces, chainNumber}
 use Rattle.window_groups.specs.Call.{GroupsOutcome, groupsNumberIn}
-use Rattle.file.specs.Layout.{endingSize, recordCount}
-use Rattle.file.specs.Format.{readNumber, readOf, writeNumber, outputOf}
-use Rattle.file.proofs.Bytes.{AreBytes}
-use Rattle.file.proofs.Files.{FitsFields}
-use Rattle.file_play.specs.Record.{packNumber}
+use Rattle.file.specs.Layout.{AreBytes, FitsFields, endingSize, recordCount}
+use Rattle.file.specs.Format.{readNumber, readOf}
+use Rattle.file_write.specs.Writer.{writeNumber, outputOf}
+use Rattle.file_record.specs.Record.{packNumber}
 use Rattle.listing.specs.Listing.{listingText, outputPlaces}
 use Rattle.pledges.specs.Exported.{Exported, Definition, Met, Pledged, CodeMeets, Gives}
 use Rattle.pledges.specs.Calls.{openingCall, linkCall, clockCall, playCall, joinedCall, chainCall, groupsCall, readCall, writeCall, listCall, packCall, unpackCall}
