@@ -4,13 +4,13 @@
 use book_joined::JoinedAnswer;
 use book_state::Book;
 use chain::ChainAnswer;
+use groups::GroupsAnswer;
 use slides::SlideTicks;
-use window_groups::GroupsAnswer;
 ghost use mathlib.Core.Path.{_≡_};
 ghost use Rattle.slides.specs.Clock.{openSlide, ticksOf};
 ghost use Rattle.book_joined.specs.Joined.{joinedOf};
 ghost use Rattle.chain.specs.Chain.{chainOf, GivesChain};
-ghost use Rattle.window_groups.specs.Call.{groupsGiven, GivesGroups};
+ghost use Rattle.groups.specs.Call.{groupsGiven, GivesGroups};
 
 // Whether the window's links join the two cells, and the steps of the walks.
 #[no_mangle]
@@ -86,7 +86,7 @@ pub extern "C" fn kerb_groups(
     ensures { λ r. ⌜ GivesGroups (groupsGiven (now (book .entry)) (now (log .entry)) (now (first .entry)) (now (size .entry)) (now (hold .entry)))
         r (now (first .exit)) (now (size .exit)) (now (hold .exit)) ⌝ }
 {
-    window_groups::over_fields(
+    groups::over_fields(
         book.clock,
         book.fitting,
         &book.counts,

@@ -12,7 +12,7 @@ use Rattle.file.specs.Format.{readOf, writeNumber, outputOf}
 use Rattle.file_play.specs.Play.{Play, playOf}
 use Rattle.file_play.specs.Record.{packNumber, packedOf, recordOf}
 use Rattle.listing.specs.Listing.{Listing, listingOf}
-use Rattle.window_groups.specs.Call.{GroupsOutcome, groupsGiven}
+use Rattle.groups.specs.Call.{GroupsOutcome, groupsGiven}
 use Rattle.kerb.specs.Interface.{version, bookSize}
 use Rattle.pledges.specs.Exported.{Pledged}
 use Rattle.pledges.specs.Calls.{

@@ -13,7 +13,7 @@ use Rattle.chain_fewest.proofs.best_trail
 use Rattle.chain.proofs.over_fields as chain_over
 use Rattle.file_play.proofs.over_fields as play_over
 use Rattle.file_play.proofs.play_file
-use Rattle.window_groups.proofs.over_fields as groups_over
+use Rattle.groups.proofs.over_fields as groups_over
 use Rattle.text.proofs.put_word
 use Rattle.text.proofs.put_fields
 use Rattle.text.proofs.put_line

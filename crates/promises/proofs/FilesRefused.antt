@@ -19,7 +19,7 @@ use Rattle.listing.specs.Listing.{listedIf, listingOf}
 use Rattle.numbers.specs.Checks.{unless}
 use Rattle.numbers.specs.Front.{atFront}
 use Rattle.window_groups.specs.declared.Groups.{Groups}
-use Rattle.window_groups.specs.Call.{GroupsOutcome, groupsByNumber, groupsGiven}
+use Rattle.groups.specs.Call.{GroupsOutcome, groupsByNumber, groupsGiven}
 use Rattle.promises.specs.History.{link}
 use Rattle.promises.specs.Implementation.{gives}
 use Rattle.promises.specs.Demands.{Stopped, FilesRefused}

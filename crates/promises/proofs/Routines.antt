@@ -13,7 +13,7 @@ use Rattle.numbers.specs.Front.{atFront}
 use Rattle.book_state.specs.declared.Book.{Book}
 use Rattle.book_state.specs.Order.{inOrder}
 use Rattle.window_groups.specs.Groups.{groupsOf}
-use Rattle.window_groups.specs.Call.{groupsNumberIn, groupsByNumber, groupsGiven}
+use Rattle.groups.specs.Call.{groupsNumberIn, groupsByNumber, groupsGiven}
 use Rattle.file.specs.Format.{readNumber, readOf}
 use Rattle.file.proofs.Files.{written-then-read, read-then-written}
 use Rattle.file_play.specs.Play.{Play, playFrom, fileByNumber, playOf}

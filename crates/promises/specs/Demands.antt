@@ -31,7 +31,7 @@ use Rattle.file.proofs.Files.{FitsFields}
 use Rattle.file_play.specs.Play.{Play, playFrom, playOf, recordGives}
 use Rattle.file_play.specs.Record.{packNumber, packedOf, recordOf}
 use Rattle.listing.specs.Listing.{listingOf}
-use Rattle.window_groups.specs.Call.{GroupsOutcome, groupsGiven}
+use Rattle.groups.specs.Call.{GroupsOutcome, groupsGiven}
 use Rattle.chain.specs.declared.ChainAnswer.{ChainAnswer}
 use Rattle.chain.specs.Chain.{ChainOutcome, chainPlaces, chainOf}
 use Rattle.promises.specs.History.{
