@@ -866,7 +866,7 @@ SPECS = {
         crate='kerb_ask', fn='kerb_slide_ticks', struct=BOOK, ref='shr', callee=('slides', 'ticks'), params=[('num', 'slide', 'u64')], args=[('load', 'clock'), ('num', 'slide')], lifetimes=[],
         answer=('struct', SLIDE_TICKS), uses=['use Rattle.slides.specs.Clock.{ticksOf}'], ensured='r ≡ ticksOf (h .clock) slide', says='e'),
     'kerb_link': dict(
-        crate='kerb_change', fn='kerb_link', struct=BOOK, ref='mut', callee=('book', 'fields.link'),
+        crate='kerb_change', fn='kerb_link', struct=BOOK, ref='mut', callee=('book_link', 'link'),
         params=[('slice-mut', 'log', 'u16'), ('num', 'tick', 'u32'), ('num', 'one', 'u16'), ('num', 'other', 'u16')],
         args=FIELDS + [('slice', 'log'), ('num', 'tick'), ('num', 'one'), ('num', 'other')], lifetimes=EACH + [('param', 'log')],
         answer=('struct', FIELDS_ANSWER), stores=[('clock', 'clock'), ('fitting', 'fitting')], returns='number',

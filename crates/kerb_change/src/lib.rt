@@ -35,7 +35,7 @@ pub extern "C" fn kerb_opening(book: &mut Book, log: &mut [u16], s: Settings) ->
 pub extern "C" fn kerb_link(book: &mut Book, log: &mut [u16], tick: u32, one: u16, other: u16) -> u8
     ensures { λ r. ⌜ Gives (linkOf (now (book .entry)) (now (log .entry)) tick one other) (record { book = now (book .exit); number = r }) (now (log .exit)) ⌝ }
 {
-    let linked = fields::link(
+    let linked = book_link::link(
         book.clock,
         book.fitting,
         &mut book.counts,
