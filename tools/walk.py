@@ -846,7 +846,7 @@ SETTINGS = Struct('settings', 'Settings', [('t0', 'u32'), ('b', 'u32'), ('n', 'u
 FIELDS_ANSWER = Struct('book', 'fields.FieldsAnswer', [('clock', ('struct', CLOCK)), ('fitting', ('struct', FITTING)), ('number', 'u8')])
 JOINED_ANSWER = Struct('book_joined', 'JoinedAnswer', [('number', 'u8'), ('yes', 'bool'), ('steps', 'u8')])
 CHAIN_ANSWER = Struct('chain', 'ChainAnswer', [('newest', 'u64'), ('cells', 'u16'), ('hold', 'u8'), ('number', 'u8')])
-GROUPS_ANSWER = Struct('window_groups', 'GroupsAnswer', [('links', 'u32'), ('number', 'u8')])
+GROUPS_ANSWER = Struct('groups', 'GroupsAnswer', [('links', 'u32'), ('number', 'u8')])
 PLAY_ANSWER = Struct('file_play', 'PlayAnswer', [('taken', 'u32'), ('number', 'u8')])
 PLAYED_FIELDS = Struct('file_play', 'PlayedFields', [('clock', ('struct', CLOCK)), ('fitting', ('struct', FITTING)), ('answer', ('struct', PLAY_ANSWER))])
 SLIDE_TICKS = Struct('slides', 'SlideTicks', [('first', 'u32'), ('last', 'u32'), ('exists', 'bool')])
@@ -866,7 +866,7 @@ SPECS = {
         crate='kerb_slides', fn='kerb_slide_ticks', struct=BOOK, ref='shr', callee=('slides', 'ticks'), params=[('num', 'slide', 'u64')], args=[('load', 'clock'), ('num', 'slide')], lifetimes=[],
         answer=('struct', SLIDE_TICKS), uses=['use Rattle.slides.specs.Clock.{ticksOf}'], ensured='r ≡ ticksOf (h .clock) slide', says='e'),
     'kerb_link': dict(
-        crate='kerb_link', fn='kerb_link', struct=BOOK, ref='mut', callee=('book', 'fields.link'),
+        crate='kerb_link', fn='kerb_link', struct=BOOK, ref='mut', callee=('book_link', 'link'),
         params=[('slice-mut', 'log', 'u16'), ('num', 'tick', 'u32'), ('num', 'one', 'u16'), ('num', 'other', 'u16')],
         args=FIELDS + [('slice', 'log'), ('num', 'tick'), ('num', 'one'), ('num', 'other')], lifetimes=EACH + [('param', 'log')],
         answer=('struct', FIELDS_ANSWER), stores=[('clock', 'clock'), ('fitting', 'fitting')], returns='number',
@@ -906,11 +906,11 @@ SPECS = {
         uses=['use Rattle.chain.specs.Chain.{chainOf, GivesChain}'],
         ensured='GivesChain (chainOf h l-log l-chain one other) r z-chain', says='e'),
     'kerb_groups': dict(
-        crate='kerb_groups', fn='kerb_groups', struct=BOOK, ref='shr', callee=('window_groups', 'over_fields'),
+        crate='kerb_groups', fn='kerb_groups', struct=BOOK, ref='shr', callee=('groups', 'over_fields'),
         params=[('slice-shr', 'log', 'u16'), ('slice-mut', 'first', 'u16'), ('slice-mut', 'size', 'u16'), ('slice-mut', 'hold', 'u8')],
         args=FIELDS + [('slice', 'log'), ('slice', 'first'), ('slice', 'size'), ('slice', 'hold')],
         lifetimes=ONE + [('param', 'log'), ('param', 'first'), ('param', 'size'), ('param', 'hold')], answer=('struct', GROUPS_ANSWER),
-        uses=['use Rattle.window_groups.specs.Call.{groupsGiven, GivesGroups}'],
+        uses=['use Rattle.groups.specs.Call.{groupsGiven, GivesGroups}'],
         ensured='GivesGroups (groupsGiven h l-log l-first l-size l-hold) r z-first z-size z-hold', says='e'),
 }
 

@@ -1,10 +1,8 @@
-// The number of each call: the first check that fails, in the order of the table (RULES 7), or 0.
-use book_state::CELLS;
+// The numbers of opening and clock: the first check that fails, in the order of the table (RULES 7), or 0.
 use settings::Settings;
 use slides::Clock;
 ghost use mathlib.Core.Path.{_≡_};
-ghost use mathlib.Core.Bool.{true};
-ghost use Rattle.book.specs.Calls.{openingNumber, linkNumberIn, clockNumberIn};
+ghost use Rattle.book.specs.Calls.{openingNumber, clockNumberIn};
 
 pub fn opening_number(s: Settings, log: &[u16]) -> u8
     ensures { λ r. ⌜ r ≡ openingNumber s (now (log .entry)) ⌝ }
@@ -15,28 +13,6 @@ pub fn opening_number(s: Settings, log: &[u16]) -> u8
     }
     if log.len() < 16384 {
         return 6;
-    }
-    0
-}
-
-// For a book in order, given how many links it holds in the link's slide.
-pub fn link_number(clock: Clock, held: u16, log: &[u16], tick: u32, one: u16, other: u16) -> u8
-    ensures { λ r. ⌜ r ≡ linkNumberIn true clock held (now (log .entry)) tick one other ⌝ }
-{
-    if log.len() < 16384 {
-        return 6;
-    }
-    if CELLS <= one {
-        return 3;
-    }
-    if CELLS <= other {
-        return 3;
-    }
-    if !slides::not_before(clock, tick) {
-        return 4;
-    }
-    if 256 <= held {
-        return 5;
     }
     0
 }

@@ -22,7 +22,7 @@ use Rattle.numbers.specs.Checks.{unless}
 use Rattle.numbers.specs.Front.{atFront}
 use Rattle.window_groups.specs.declared.Groups.{Groups}
 use Rattle.window_groups.specs.Groups.{groupsOf}
-use Rattle.window_groups.specs.Call.{GroupsOutcome, groupsNumberIn, groupsByNumber, groupsGiven}
+use Rattle.groups.specs.Call.{GroupsOutcome, groupsNumberIn, groupsByNumber, groupsGiven}
 use Rattle.demands.specs.History.{link}
 use Rattle.demands.specs.Implementation.{gives}
 use Rattle.demands.specs.Demands.{Stopped, FilesRefused}

@@ -18,7 +18,7 @@ use Rattle.chain.proofs.Never.{never-chain}
 use Rattle.file.specs.Layout.{tickAt, oneAt, otherAt}
 use Rattle.file.specs.Format.{readOf}
 use Rattle.file_play.specs.Play.{playFrom, playByNumber, recordGives}
-use Rattle.window_groups.specs.Call.{groupsNumberIn}
+use Rattle.groups.specs.Call.{groupsNumberIn}
 use Rattle.demands.specs.Demands.{NeverOpened}
 use Rattle.demands.proofs.NumbersAgree.{link-gives, clock-gives, joined-gives}
 use Rattle.demands.proofs.NoEight.{chain-gives}

@@ -30,7 +30,7 @@ use Rattle.file_write.specs.Writer.{writeNumber, outputOf}
 use Rattle.file_play.specs.Play.{Play, playFrom, playOf, recordGives}
 use Rattle.file_record.specs.Record.{packNumber, packedOf, recordOf}
 use Rattle.listing.specs.Listing.{listingOf}
-use Rattle.window_groups.specs.Call.{GroupsOutcome, groupsGiven}
+use Rattle.groups.specs.Call.{GroupsOutcome, groupsGiven}
 use Rattle.chain.specs.declared.ChainAnswer.{ChainAnswer}
 use Rattle.chain.specs.Chain.{ChainOutcome, chainPlaces, chainOf}
 use Rattle.demands.specs.History.{

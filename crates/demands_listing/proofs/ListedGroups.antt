@@ -16,7 +16,7 @@ use Rattle.numbers.proofs.Checks.{passes}
 use Rattle.book_state.specs.Arrays.{cells}
 use Rattle.window.specs.Window.{windowLinks, linksFromLabel, highest}
 use Rattle.window_groups.specs.Groups.{filter, smallest, groupOf, holdOf, leastHold, leastOver, ofCells, groupsOf}
-use Rattle.window_groups.specs.Call.{groupsByNumber, groupsGiven}
+use Rattle.groups.specs.Call.{groupsByNumber, groupsGiven}
 use Rattle.listing.specs.Lines.{groupLine, linesOf, groupLines}
 use Rattle.demands.specs.History.{History}
 use Rattle.demands.specs.Implementation.{State}

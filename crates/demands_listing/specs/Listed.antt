@@ -22,7 +22,7 @@ use Rattle.file_play.specs.Play.{Play, playOf}
 use Rattle.file_record.specs.Record.{FitsRecord, packedOf, recordOf}
 use Rattle.window_groups.specs.declared.Groups.{Groups}
 use Rattle.window_groups.specs.Groups.{filter, smallest, leastOver, ofCells}
-use Rattle.window_groups.specs.Call.{GroupsOutcome, groupsByNumber, groupsGiven}
+use Rattle.groups.specs.Call.{GroupsOutcome, groupsByNumber, groupsGiven}
 use Rattle.text.specs.Text.{line}
 use Rattle.listing.specs.Lines.{windowWord, linksWord, refusedFile, refusedRecord, groupLine, linesOf}
 use Rattle.listing.specs.Listing.{windowLine, listingText}

@@ -2,8 +2,8 @@
 // its fields on where they stand; what it gives, and what the lent buffers hold at the end, is what its definition says, for every
 // input. The proof is a walk of the code, written by tools/walk.py.
 use book_state::Book;
-use window_groups::GroupsAnswer;
-ghost use Rattle.window_groups.specs.Call.{groupsGiven, GivesGroups};
+use groups::GroupsAnswer;
+ghost use Rattle.groups.specs.Call.{groupsGiven, GivesGroups};
 
 // Of each cell its group's smallest cell, number of cells and least hold, at the fronts of three buffers (RULES 8.9).
 #[no_mangle]
@@ -17,7 +17,7 @@ pub extern "C" fn kerb_groups(
     ensures { λ r. ⌜ GivesGroups (groupsGiven (now (book .entry)) (now (log .entry)) (now (first .entry)) (now (size .entry)) (now (hold .entry)))
         r (now (first .exit)) (now (size .exit)) (now (hold .exit)) ⌝ }
 {
-    window_groups::over_fields(
+    groups::over_fields(
         book.clock,
         book.fitting,
         &book.counts,

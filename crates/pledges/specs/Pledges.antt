@@ -13,7 +13,7 @@ use Rattle.file_play.specs.Play.{Play, playOf}
 use Rattle.file_record.specs.Record.{packNumber, packedOf, recordOf}
 use Rattle.file_write.specs.Writer.{writeNumber, outputOf}
 use Rattle.listing.specs.Listing.{Listing, listingOf}
-use Rattle.window_groups.specs.Call.{GroupsOutcome, groupsGiven}
+use Rattle.groups.specs.Call.{GroupsOutcome, groupsGiven}
 use Rattle.kerb.specs.Interface.{version, bookSize}
 use Rattle.pledges.specs.Exported.{Exported, Definition, Pledged}
 use Rattle.pledges.specs.Calls.{

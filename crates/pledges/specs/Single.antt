@@ -4,8 +4,8 @@
 use Rattle.book_time.proofs.freshen
 use Rattle.book_time.proofs.move_to
 use Rattle.book.proofs.fields.opening as fields_opening
-use Rattle.book.proofs.fields.link as fields_link
-use Rattle.book.proofs.fields.link_in_order as fields_link_ordered
+use Rattle.book_link.proofs.link as fields_link
+use Rattle.book_link.proofs.link_in_order as fields_link_ordered
 use Rattle.book.proofs.fields.clock as fields_clock
 use Rattle.window.proofs.gather
 use Rattle.window.proofs.gather_newest
@@ -13,7 +13,7 @@ use Rattle.chain_fewest.proofs.best_trail
 use Rattle.chain.proofs.over_fields as chain_over
 use Rattle.file_play.proofs.over_fields as play_over
 use Rattle.file_play.proofs.play_file
-use Rattle.window_groups.proofs.over_fields as groups_over
+use Rattle.groups.proofs.over_fields as groups_over
 use Rattle.text.proofs.put_word
 use Rattle.text.proofs.put_fields
 use Rattle.text.proofs.put_line

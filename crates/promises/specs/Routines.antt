@@ -20,7 +20,7 @@ use Rattle.book_state.specs.Order.{inOrder}
 use Rattle.book_joined.specs.Joined.{joinedNumber}
 use Rattle.book.specs.Calls.{openingNumber, linkNumber, clockNumber}
 use Rattle.chain.specs.Chain.{chainPlaces, chainNumber}
-use Rattle.window_groups.specs.Call.{GroupsOutcome, groupsNumberIn}
+use Rattle.groups.specs.Call.{GroupsOutcome, groupsNumberIn}
 use Rattle.file.specs.Layout.{AreBytes, FitsFields, endingSize, recordCount}
 use Rattle.file.specs.Format.{readNumber, readOf}
 use Rattle.file_write.specs.Writer.{writeNumber, outputOf}

@@ -8,7 +8,7 @@ use native.Mathlib.Omega.{arith}
 use native.Mathlib.Decide.{ℕ-discrete}
 use borrow.Author.Tests.{eq-eqb, ne-eqb}
 use lib.Dec.{eqb}
-use lib.ListN.{length, getD, set, length-set}
+use lib.ListN.{length, getD, set, replicate, length-set, length-replicate, getD-replicate}
 use lib.Seq.{getD-set-same, getD-set-other, ext-getD}
 use Rattle.forest.specs.Arrays.{countFrom}
 use Rattle.forest.proofs.Fill.{length-each, getD-each, length-countFrom}
@@ -44,9 +44,11 @@ module _ (root : ℕ → ℕ) (c r : ℕ) (h : c < cells) where
   tree-other e = rw (left, ne-eqb (root c) r e)
 
 module _ {f : List ℕ → ℕ} {root : ℕ → ℕ} where
-  pub tallied-none : {a : List ℕ} → length a ≡ cells → ((r : ℕ) → r < cells → getD a r 0 ≡ f []) → Tallied f root a cells
+  -- a fresh array, of what the function gives of no cells
+  pub tallied-none : (x : ℕ) → x ≡ f [] → Tallied f root (replicate cells x) cells
   unfolding filter countFrom
-  tallied-none long e = record { within = omega arith; long = long; stored = e }
+  tallied-none x e =
+      record { within = omega arith; long = length-replicate cells x; stored = λ r h. getD-replicate cells r x 0 h ∙ e }
 
   pub tallied-one : {a : List ℕ} {c r v : ℕ} → Tallied f root a c → 0 < c → root (c - 1) ≡ r → r < cells
       → v ≡ f ((c - 1) ∷ treeFrom root r c) → Tallied f root (set a r v) (c - 1)

@@ -1,5 +1,5 @@
--- `kerb_groups::kerb_groups` meets its contract: a walk of its MIR, by hand. The borrow is opened and the struct is taken apart into its fields; 2 of them are loaded, 6 are lent to `window_groups::over_fields` where they stand and come back at the last values that it ensures; the struct is put together, and the borrow is closed at it.
--- All that the proof knows of `window_groups::over_fields` is that it meets its contract.
+-- `kerb_groups::kerb_groups` meets its contract: a walk of its MIR, by hand. The borrow is opened and the struct is taken apart into its fields; 2 of them are loaded, 6 are lent to `groups::over_fields` where they stand and come back at the last values that it ensures; the struct is put together, and the borrow is closed at it.
+-- All that the proof knows of `groups::over_fields` is that it meets its contract.
 -- Written by tools/walk.py.
 use mathlib.Core.Path.{_≡_, refl, sym, ap}
 use Prim.Native.Nat.{ℕ, _<_, _^_, _+_}
@@ -44,24 +44,24 @@ use denote.Triple.Table.{entered, cited}
 use denote.Triple.Walked.{says, Stays, stay-ref, stay-none-ref, stay-none-slice, stay-none, gave-slice, walkOf, AllGo, goes-none, goes-ref, goes-none-ref, goes-none-slice, goes-gave-slice, Walks, ends-at, walked, walk-meets}
 use denote.Exit.{yes}
 use borrow.Table.OneValue.{part-in}
-use Rattle.window_groups.specs.Call.{groupsGiven, GivesGroups}
+use Rattle.groups.specs.Call.{groupsGiven, GivesGroups}
 use Rattle.book_state.specs.declared.Book.{Book}
 use Rattle.slides.specs.declared.Clock.{Clock}
 use Rattle.cells.specs.declared.Fitting.{Fitting}
-use Rattle.window_groups.specs.declared.GroupsAnswer.{GroupsAnswer}
+use Rattle.groups.specs.declared.GroupsAnswer.{GroupsAnswer}
 use Rattle.book_state.proofs.Book as T
 use Rattle.book_state.proofs.Book.Laws as T′
 use Rattle.slides.proofs.Clock as T1
 use Rattle.slides.proofs.Clock.Laws as T1′
 use Rattle.cells.proofs.Fitting as T2
 use Rattle.cells.proofs.Fitting.Laws as T2′
-use Rattle.window_groups.proofs.GroupsAnswer as T3
-use Rattle.window_groups.proofs.GroupsAnswer.Laws as T3′
+use Rattle.groups.proofs.GroupsAnswer as T3
+use Rattle.groups.proofs.GroupsAnswer.Laws as T3′
 use Rattle.kerb_walk.proofs.Apart.{Ones, parts, Way, apart, together, packs, unpacks, field-out}
-use Rattle.window_groups.proofs.over_fields as g
-use Rattle.window_groups.proofs.over_fields.Symbol as g-def
-use Rattle.window_groups.proofs.over_fields.Symbol.{name as #window_groups·over-fields}
-use Rattle.window_groups.proofs.over_fields.Met as g-thm
+use Rattle.groups.proofs.over_fields as g
+use Rattle.groups.proofs.over_fields.Symbol as g-def
+use Rattle.groups.proofs.over_fields.Symbol.{name as #groups·over-fields}
+use Rattle.groups.proofs.over_fields.Met as g-thm
 use Rattle.kerb_groups.proofs.kerb_groups.Key.{name as #kerb_groups·kerb-groups}
 use Rattle.kerb_groups.proofs.kerb_groups as f
 use Rattle.kerb_groups.proofs.kerb_groups.Statement as stated
@@ -104,7 +104,7 @@ module _ {M : Type 1} (𝓤 : URA M) (H : Heap 𝓤) (A : Atoms 𝓤) (W : Given
   abbrev Post : Val → SProp 𝓤
   Post = walkOf 𝓤 H A f.ended stayed (f.clauses 𝓤 H A at-mem run) .post (((κ, (κ-log, (κ-first, (κ-size, (κ-hold, tt))))), (q, (q-log, (q-first, (q-size, (q-hold, tt))))), tt, x, at), tt)
 
-  -- what `window_groups::over_fields` ensures of its answer and of the last values
+  -- what `groups::over_fields` ensures of its answer and of the last values
   abbrev Ensured : GroupsAnswer → List ℕ → List ℕ → List ℕ → Type 0
   Ensured r z-first z-size z-hold = GivesGroups (groupsGiven h l-log l-first l-size l-hold) r z-first z-size z-hold
 
@@ -160,7 +160,7 @@ module _ {M : Type 1} (𝓤 : URA M) (H : Heap 𝓤) (A : Atoms 𝓤) (W : Given
   goes-callee is-clock is-fitting ν0 δ-counts δ-forward-parent δ-forward-size δ-backward-parent δ-backward-size δ-backward-label =
       qed W (‵ (flft (ν0 ∷ []) fullShare) ∷ ‵ (flft κ-log q-log) ∷ ‵ (flft κ-first q-first) ∷ ‵ (flft κ-size q-size) ∷ ‵ (flft κ-hold q-hold) ∷ ‵ (held-counts ν0 δ-counts) ∷ ‵ (held-forward-parent ν0 δ-forward-parent) ∷ ‵ (held-forward-size ν0 δ-forward-size) ∷ ‵ (held-backward-parent ν0 δ-backward-parent) ∷ ‵ (held-backward-size ν0 δ-backward-size) ∷ ‵ (held-backward-label ν0 δ-backward-label) ∷ ‵ (ShrSlice (named 0) κ-log u16 .own ref-log (sliceVal (b-log, o-log) (length l-log) ∷ [])) ∷ ‵ (MutSlice (named 0) κ-first u16 .own ref-first (sliceVal (b-first, o-first) (length l-first) ∷ [])) ∷ ‵ (MutSlice (named 0) κ-size u16 .own ref-size (sliceVal (b-size, o-size) (length l-size) ∷ [])) ∷ ‵ (MutSlice (named 0) κ-hold u8 .own ref-hold (sliceVal (b-hold, o-hold) (length l-hold) ∷ [])) ∷ []) ∵ nothing ! $ move ! (15 ∷ 0 ∷ []) $ fjoin ! $ move ! (14 ∷ 0 ∷ []) $ fjoin ! $ move ! (13 ∷ 0 ∷ []) $ fjoin ! $ move ! (12 ∷ 0 ∷ []) $ fjoin ! $ move ! (11 ∷ 0 ∷ []) $ fjoin ! $ move ! (10 ∷ 0 ∷ []) $ fjoin ! $ move ! (9 ∷ 0 ∷ []) $ fjoin ! $ move ! (8 ∷ 0 ∷ []) $ fjoin ! $ move ! (7 ∷ 0 ∷ []) $ fjoin ! $ move ! (6 ∷ 0 ∷ []) $ fjoin ! $ owned ! T2.the-row (Is T2.the-row) ((LL.makes T2.the-type T2′.the-plain) 𝓤 H A) (h .fitting) _ is-fitting $ fjoin ! $ owned ! T1.the-row (Is T1.the-row) ((LL.makes T1.the-type T1′.the-plain) 𝓤 H A) (h .clock) _ is-clock $ fjoin ! $ nothing ! $ move ! (6 ∷ 0 ∷ []) $ join ! $ move ! (5 ∷ 0 ∷ []) $ join ! $ move ! (4 ∷ 0 ∷ []) $ join ! $ move ! (3 ∷ 0 ∷ []) $ join ! $ move ! (2 ∷ 0 ∷ []) $ join ! $ join ! $ frame ! $ done !
 
-  module _ (C : Calls 𝓤 H) (Λ : Loops 𝓤 H) (fm : FmC 𝓤 H (W .laws) C) (known : Triple 𝓤 (C #window_groups·over-fields) (Callee 𝓤 H A at-mem run)) where
+  module _ (C : Calls 𝓤 H) (Λ : Loops 𝓤 H) (fm : FmC 𝓤 H (W .laws) C) (known : Triple 𝓤 (C #groups·over-fields) (Callee 𝓤 H A at-mem run)) where
     walk : ent 𝓤 (onEntry 𝓤 H A f.signature (κ, (κ-log, (κ-first, (κ-size, (κ-hold, tt))))) (q, (q-log, (q-first, (q-size, (q-hold, tt))))) x at) (WpFn 𝓤 H C Λ code.function (vptr b o ∷ sliceVal (b-log, o-log) (length l-log) ∷ sliceVal (b-first, o-first) (length l-first) ∷ sliceVal (b-size, o-size) (length l-size) ∷ sliceVal (b-hold, o-hold) (length l-hold) ∷ []) Post)
     walk =
         qed W ((‵ (flft κ q) ⊛ (‵ (flft κ-log q-log) ⊛ (‵ (flft κ-first q-first) ⊛ (‵ (flft κ-size q-size) ⊛ (‵ (flft κ-hold q-hold) ⊛ ‵ ftrue))))) ∷ ‵ (owns (ShrRef (named 0) κ T.the-row ∷ ShrSlice (named 1) κ-log u16 ∷ MutSlice (named 2) κ-first u16 ∷ MutSlice (named 3) κ-size u16 ∷ MutSlice (named 4) κ-hold u8 ∷ []) x at) ∷ []) ∵ split ! $ move ! (1 ∷ []) $ split ! $ move ! (1 ∷ []) $ split ! $ move ! (1 ∷ []) $ split ! $ move ! (1 ∷ []) $ split ! $ move ! (6 ∷ []) $ fsplit ! $ fsplit3 ! $ drop ! $ move ! (2 ∷ []) $ fsplit ! $ move ! (1 ∷ []) $ fsplit ! $ move ! (1 ∷ []) $ fsplit ! $ move ! (1 ∷ []) $ fsplit ! $
@@ -219,14 +219,14 @@ module _ {M : Type 1} (𝓤 : URA M) (H : Heap 𝓤) (A : Atoms 𝓤) (W : Given
         move ! (62 ∷ 63 ∷ []) $ free1 ! $ move ! (60 ∷ 61 ∷ []) $ free1 ! $ move ! (58 ∷ 59 ∷ []) $ free1 ! $ move ! (56 ∷ 57 ∷ []) $ free1 ! $ move ! (54 ∷ 55 ∷ []) $ free1 ! $ move ! (52 ∷ 53 ∷ []) $ free1 ! $ move ! (50 ∷ 51 ∷ []) $ free1 ! $ move ! (48 ∷ 49 ∷ []) $ free1 ! $ move ! (46 ∷ 47 ∷ []) $ free1 ! $ move ! (44 ∷ 45 ∷ []) $ free1 ! $ move ! (42 ∷ 43 ∷ []) $ free1 ! $ move ! (40 ∷ 41 ∷ []) $ free1 ! $ move ! (38 ∷ 39 ∷ []) $ free1 ! $ move ! (36 ∷ 37 ∷ []) $ free1 ! $ move ! (34 ∷ 35 ∷ []) $ free1 ! $ move ! (32 ∷ 33 ∷ []) $ free1 ! $ move ! (30 ∷ 31 ∷ []) $ free1 ! $ move ! (28 ∷ 29 ∷ []) $ free1 ! $ move ! (26 ∷ 27 ∷ []) $ free1 ! $ move ! (24 ∷ 25 ∷ []) $ free1 ! $ free0 ! $ keep ! (25 ∷ 23 ∷ 0 ∷ 5 ∷ 20 ∷ 4 ∷ 9 ∷ 3 ∷ 8 ∷ 1 ∷ 7 ∷ 6 ∷ []) $ by ! (exits r w (zs .1 .1 .1 .1 .1 .1 .1 .1 .1 .0) (zs .1 .1 .1 .1 .1 .1 .1 .1 .1 .1 .0) (zs .1 .1 .1 .1 .1 .1 .1 .1 .1 .1 .1 .0) e len-first len-size len-hold)))))))))))))))))))))))))))))))))))))))
 
 module _ {M : Type 1} (𝓤 : URA M) (H : Heap 𝓤) (A : Atoms 𝓤) (W : Given 𝓤 H A) (mem : Memory → SProp 𝓤) (run : Routine → Fun 𝓤) where
-  kerb-groups-walks : (C : Calls 𝓤 H) (Λ : Loops 𝓤 H) → FmC 𝓤 H (W .laws) C → Triple 𝓤 (C #window_groups·over-fields) (Callee 𝓤 H A mem run) → Walks 𝓤 H A f.ended stayed (WpFn 𝓤 H C Λ code.function) (f.clauses 𝓤 H A mem run)
+  kerb-groups-walks : (C : Calls 𝓤 H) (Λ : Loops 𝓤 H) → FmC 𝓤 H (W .laws) C → Triple 𝓤 (C #groups·over-fields) (Callee 𝓤 H A mem run) → Walks 𝓤 H A f.ended stayed (WpFn 𝓤 H C Λ code.function) (f.clauses 𝓤 H A mem run)
   kerb-groups-walks C Λ fm known = walked 𝓤 H A f.ended stayed (f.clauses 𝓤 H A mem run) (WpFn 𝓤 H C Λ code.function) (λ κs. (ptr-vals, (slice-vals, (slice-vals, (slice-vals, (slice-vals, tt)))))) (λ κs. (shr-tells (named 0) (κs .0) T.the-row, (shr-slice-tells (named 1) (κs .1 .0) u16, (mut-slice-tells (named 2) (κs .1 .1 .0) u16, (mut-slice-tells (named 3) (κs .1 .1 .1 .0) u16, (mut-slice-tells (named 4) (κs .1 .1 .1 .1 .0) u8, tt))))))
       (λ κs qs bounds a _ are. via 𝓤 _ (fst∗ 𝓤 _ (emp 𝓤)) (walk 𝓤 H A W mem run (κs .0) (κs .1 .0) (κs .1 .1 .0) (κs .1 .1 .1 .0) (κs .1 .1 .1 .1 .0) (qs .0) (qs .1 .0) (qs .1 .1 .0) (qs .1 .1 .1 .0) (qs .1 .1 .1 .1 .0) (a .0 .ptr .0) (a .0 .ptr .1) (a .0 .name) (a .0 .now) (a .1 .0 .ptr .0) (a .1 .0 .ptr .1) (a .1 .0 .name) (a .1 .0 .now) (a .1 .1 .0 .ptr .0) (a .1 .1 .0 .ptr .1) (a .1 .1 .0 .name) (a .1 .1 .0 .now) (a .1 .1 .1 .0 .ptr .0) (a .1 .1 .1 .0 .ptr .1) (a .1 .1 .1 .0 .name) (a .1 .1 .1 .0 .now) (a .1 .1 .1 .1 .0 .ptr .0) (a .1 .1 .1 .1 .0 .ptr .1) (a .1 .1 .1 .1 .0 .name) (a .1 .1 .1 .1 .0 .now) (are .1 .0 .0 .1) (are .1 .1 .0 .0 .1) (are .1 .1 .1 .0 .0 .1) (are .1 .1 .1 .1 .0 .0 .1) C Λ fm known))
 
   goes : AllGo 𝓤 H A W 5 (f.signature .params) (f.ended .kept) stayed
   goes = (goes-none-ref 𝓤 H A W 5 (0 ∷ []) tt (plain (λ _. T.the-row)) yes, (goes-none-slice 𝓤 H A W 5 (1 ∷ []) tt (plain (λ _. u16)) yes, (goes-gave-slice 𝓤 H A W 5 2 tt (plain (λ _. u16)), (goes-gave-slice 𝓤 H A W 5 3 tt (plain (λ _. u16)), (goes-gave-slice 𝓤 H A W 5 4 tt (plain (λ _. u8)), tt)))))
 
-kerb-groups-meets : {M : Type 1} (𝓤 : URA M) (H : Heap 𝓤) (A : Atoms 𝓤) → Given 𝓤 H A → (mem : Memory → SProp 𝓤) (run : Routine → Fun 𝓤) (𝓣 : Tables 𝓤 H) → Triple 𝓤 (𝓣 .C #window_groups·over-fields) (Callee 𝓤 H A mem run)
+kerb-groups-meets : {M : Type 1} (𝓤 : URA M) (H : Heap 𝓤) (A : Atoms 𝓤) → Given 𝓤 H A → (mem : Memory → SProp 𝓤) (run : Routine → Fun 𝓤) (𝓣 : Tables 𝓤 H) → Triple 𝓤 (𝓣 .C #groups·over-fields) (Callee 𝓤 H A mem run)
     → Meets 𝓤 H A f.signature (WpFn 𝓤 H (𝓣 .C) (𝓣 .Λ) code.function) (f.spec 𝓤 H A mem run)
 kerb-groups-meets 𝓤 H A W mem run 𝓣 known = walk-meets 𝓤 H A f.ended stayed W (goes 𝓤 H A W mem run) (f.clauses 𝓤 H A mem run) (WpFn 𝓤 H (𝓣 .C) (𝓣 .Λ) code.function) (WpFn-mono 𝓤 H (W .laws) 𝓣 code.function)
     (kerb-groups-walks 𝓤 H A W mem run (𝓣 .C) (𝓣 .Λ) (fmOf 𝓤 H (W .laws) 𝓣) known)
@@ -237,4 +237,4 @@ kerb-groups-spec 𝓤 H 𝓜 𝓖 𝓡 =
     entered 𝓤 H (tripleOf 𝓤 H (𝓖 .A) f.signature (f.spec 𝓤 H (𝓖 .A) (𝓜 .mem) (𝓡 .run)))
     (tables 𝓤 H 𝓜 𝓡 code.env .C) (tables 𝓤 H 𝓜 𝓡 code.env .Λ) #kerb_groups·kerb-groups code.function (code.unfolded 𝓤 H 𝓜 𝓡)
     (kerb-groups-meets 𝓤 H (𝓖 .A) (givenOf 𝓤 H 𝓜 𝓖) (𝓜 .mem) (𝓡 .run) (tablesOf 𝓤 H 𝓜 (tables 𝓤 H 𝓜 𝓡 code.env))
-    (cited 𝓤 H (Callee 𝓤 H (𝓖 .A) (𝓜 .mem) (𝓡 .run)) 𝓜 𝓡 code.env #window_groups·over-fields g-def.routine code.calls-window-groups·over-fields (g-thm.met 𝓤 H 𝓜 𝓖 𝓡)))
+    (cited 𝓤 H (Callee 𝓤 H (𝓖 .A) (𝓜 .mem) (𝓡 .run)) 𝓜 𝓡 code.env #groups·over-fields g-def.routine code.calls-groups·over-fields (g-thm.met 𝓤 H 𝓜 𝓖 𝓡)))

@@ -1,5 +1,5 @@
--- `kerb_link::kerb_link` meets its contract: a walk of its MIR, by hand. The borrow is opened and the struct is taken apart into its fields; 2 of them are loaded, 6 are lent to `book::fields::link` where they stand and come back at the last values that it ensures, 2 are stored to; the struct is put together, and the borrow is closed at it.
--- All that the proof knows of `book::fields::link` is that it meets its contract.
+-- `kerb_link::kerb_link` meets its contract: a walk of its MIR, by hand. The borrow is opened and the struct is taken apart into its fields; 2 of them are loaded, 6 are lent to `book_link::link` where they stand and come back at the last values that it ensures, 2 are stored to; the struct is put together, and the borrow is closed at it.
+-- All that the proof knows of `book_link::link` is that it meets its contract.
 -- Written by tools/walk.py.
 use mathlib.Core.Path.{_≡_, refl, sym, ap}
 use Prim.Native.Nat.{ℕ, _<_, _^_, _+_}
@@ -58,10 +58,10 @@ use Rattle.cells.proofs.Fitting.Laws as T2′
 use Rattle.book.proofs.fields.FieldsAnswer as T3
 use Rattle.book.proofs.fields.FieldsAnswer.Laws as T3′
 use Rattle.kerb_walk.proofs.Apart.{Ones, parts, Way, apart, together, packs, unpacks, field-out}
-use Rattle.book.proofs.fields.link as g
-use Rattle.book.proofs.fields.link.Symbol as g-def
-use Rattle.book.proofs.fields.link.Symbol.{name as #book·fields·link}
-use Rattle.book.proofs.fields.link.Met as g-thm
+use Rattle.book_link.proofs.link as g
+use Rattle.book_link.proofs.link.Symbol as g-def
+use Rattle.book_link.proofs.link.Symbol.{name as #book_link·link}
+use Rattle.book_link.proofs.link.Met as g-thm
 use Rattle.kerb_link.proofs.kerb_link.Key.{name as #kerb_link·kerb-link}
 use Rattle.kerb_link.proofs.kerb_link as f
 use Rattle.kerb_link.proofs.kerb_link.Statement as stated
@@ -99,7 +99,7 @@ module _ {M : Type 1} (𝓤 : URA M) (H : Heap 𝓤) (A : Atoms 𝓤) (W : Given
   abbrev Post : Val → SProp 𝓤
   Post = walkOf 𝓤 H A f.ended stayed (f.clauses 𝓤 H A at-mem run) .post (((κ, (κ-log, tt)), (q, (q-log, tt)), tt, x, at), tt)
 
-  -- what `book::fields::link` ensures of its answer and of the last values
+  -- what `book_link::link` ensures of its answer and of the last values
   abbrev Ensured : FieldsAnswer → List ℕ → List ℕ → List ℕ → List ℕ → List ℕ → List ℕ → List ℕ → Type 0
   Ensured r z-counts z-forward-parent z-forward-size z-backward-parent z-backward-size z-backward-label z-log = GivesFields (linkOf h l-log tick one other) r z-counts z-forward-parent z-forward-size z-backward-parent z-backward-size z-backward-label z-log
 
@@ -155,7 +155,7 @@ module _ {M : Type 1} (𝓤 : URA M) (H : Heap 𝓤) (A : Atoms 𝓤) (W : Given
   goes-callee is-clock is-fitting ν0 ν1 ν2 ν3 ν4 ν5 δ-counts δ-forward-parent δ-forward-size δ-backward-parent δ-backward-size δ-backward-label =
       qed W (‵ (flft (ν0 ∷ []) fullShare) ∷ ‵ (flft (ν1 ∷ []) fullShare) ∷ ‵ (flft (ν2 ∷ []) fullShare) ∷ ‵ (flft (ν3 ∷ []) fullShare) ∷ ‵ (flft (ν4 ∷ []) fullShare) ∷ ‵ (flft (ν5 ∷ []) fullShare) ∷ ‵ (flft κ-log q-log) ∷ ‵ (held-counts ν0 δ-counts) ∷ ‵ (held-forward-parent ν1 δ-forward-parent) ∷ ‵ (held-forward-size ν2 δ-forward-size) ∷ ‵ (held-backward-parent ν3 δ-backward-parent) ∷ ‵ (held-backward-size ν4 δ-backward-size) ∷ ‵ (held-backward-label ν5 δ-backward-label) ∷ ‵ (MutSlice (named 0) κ-log u16 .own ref-log (sliceVal (b-log, o-log) (length l-log) ∷ [])) ∷ []) ∵ nothing ! $ owned ! u16 (Is u16) (uint-makes 𝓤 H A W w16) other _ ok-other $ fjoin ! $ owned ! u16 (Is u16) (uint-makes 𝓤 H A W w16) one _ ok-one $ fjoin ! $ owned ! u32 (Is u32) (uint-makes 𝓤 H A W w32) tick _ ok-tick $ fjoin ! $ move ! (14 ∷ 0 ∷ []) $ fjoin ! $ move ! (13 ∷ 0 ∷ []) $ fjoin ! $ move ! (12 ∷ 0 ∷ []) $ fjoin ! $ move ! (11 ∷ 0 ∷ []) $ fjoin ! $ move ! (10 ∷ 0 ∷ []) $ fjoin ! $ move ! (9 ∷ 0 ∷ []) $ fjoin ! $ move ! (8 ∷ 0 ∷ []) $ fjoin ! $ owned ! T2.the-row (Is T2.the-row) ((LL.makes T2.the-type T2′.the-plain) 𝓤 H A) (h .fitting) _ is-fitting $ fjoin ! $ owned ! T1.the-row (Is T1.the-row) ((LL.makes T1.the-type T1′.the-plain) 𝓤 H A) (h .clock) _ is-clock $ fjoin ! $ nothing ! $ move ! (8 ∷ 0 ∷ []) $ join ! $ move ! (7 ∷ 0 ∷ []) $ join ! $ move ! (6 ∷ 0 ∷ []) $ join ! $ move ! (5 ∷ 0 ∷ []) $ join ! $ move ! (4 ∷ 0 ∷ []) $ join ! $ move ! (3 ∷ 0 ∷ []) $ join ! $ move ! (2 ∷ 0 ∷ []) $ join ! $ join ! $ frame ! $ done !
 
-  module _ (C : Calls 𝓤 H) (Λ : Loops 𝓤 H) (fm : FmC 𝓤 H (W .laws) C) (known : Triple 𝓤 (C #book·fields·link) (Callee 𝓤 H A at-mem run)) where
+  module _ (C : Calls 𝓤 H) (Λ : Loops 𝓤 H) (fm : FmC 𝓤 H (W .laws) C) (known : Triple 𝓤 (C #book_link·link) (Callee 𝓤 H A at-mem run)) where
     walk : ent 𝓤 (onEntry 𝓤 H A f.signature (κ, (κ-log, tt)) (q, (q-log, tt)) x at) (WpFn 𝓤 H C Λ code.function (vptr b o ∷ sliceVal (b-log, o-log) (length l-log) ∷ (vint w32 tick) ∷ (vint w16 one) ∷ (vint w16 other) ∷ []) Post)
     walk =
         qed W ((‵ (flft κ q) ⊛ (‵ (flft κ-log q-log) ⊛ ‵ ftrue)) ∷ ‵ (owns (MutRef (named 0) κ T.the-row ∷ MutSlice (named 1) κ-log u16 ∷ u32 ∷ u16 ∷ u16 ∷ []) x at) ∷ []) ∵ split ! $ move ! (1 ∷ []) $ split ! $ move ! (3 ∷ []) $ fsplit ! $ fsplit3 ! $ drop ! $ move ! (2 ∷ []) $ fsplit ! $
@@ -215,14 +215,14 @@ module _ {M : Type 1} (𝓤 : URA M) (H : Heap 𝓤) (A : Atoms 𝓤) (W : Given
         move ! (44 ∷ 45 ∷ []) $ free1 ! $ move ! (42 ∷ 43 ∷ []) $ free1 ! $ move ! (40 ∷ 41 ∷ []) $ free1 ! $ move ! (38 ∷ 39 ∷ []) $ free1 ! $ move ! (36 ∷ 37 ∷ []) $ free1 ! $ move ! (34 ∷ 35 ∷ []) $ free1 ! $ move ! (32 ∷ 33 ∷ []) $ free1 ! $ move ! (30 ∷ 31 ∷ []) $ free1 ! $ move ! (28 ∷ 29 ∷ []) $ free1 ! $ move ! (26 ∷ 27 ∷ []) $ free1 ! $ move ! (24 ∷ 25 ∷ []) $ free1 ! $ move ! (22 ∷ 23 ∷ []) $ free1 ! $ move ! (20 ∷ 21 ∷ []) $ free1 ! $ move ! (18 ∷ 19 ∷ []) $ free1 ! $ move ! (16 ∷ 17 ∷ []) $ free1 ! $ move ! (14 ∷ 15 ∷ []) $ free1 ! $ move ! (12 ∷ 13 ∷ []) $ free1 ! $ free0 ! $ keep ! (0 ∷ 1 ∷ 2 ∷ 3 ∷ 6 ∷ []) $ by ! (exits r (zs .1 .1 .0) (zs .1 .1 .1 .0) (zs .1 .1 .1 .1 .0) (zs .1 .1 .1 .1 .1 .0) (zs .1 .1 .1 .1 .1 .1 .0) (zs .1 .1 .1 .1 .1 .1 .1 .0) (zs .1 .1 .1 .1 .1 .1 .1 .1 .0) e len-log (LL.owed T3.the-type T3′.the-laws r (w ∷ []) is .1 .1 .0))))))))))))))))))))))))))))))))))))))))
 
 module _ {M : Type 1} (𝓤 : URA M) (H : Heap 𝓤) (A : Atoms 𝓤) (W : Given 𝓤 H A) (mem : Memory → SProp 𝓤) (run : Routine → Fun 𝓤) where
-  kerb-link-walks : (C : Calls 𝓤 H) (Λ : Loops 𝓤 H) → FmC 𝓤 H (W .laws) C → Triple 𝓤 (C #book·fields·link) (Callee 𝓤 H A mem run) → Walks 𝓤 H A f.ended stayed (WpFn 𝓤 H C Λ code.function) (f.clauses 𝓤 H A mem run)
+  kerb-link-walks : (C : Calls 𝓤 H) (Λ : Loops 𝓤 H) → FmC 𝓤 H (W .laws) C → Triple 𝓤 (C #book_link·link) (Callee 𝓤 H A mem run) → Walks 𝓤 H A f.ended stayed (WpFn 𝓤 H C Λ code.function) (f.clauses 𝓤 H A mem run)
   kerb-link-walks C Λ fm known = walked 𝓤 H A f.ended stayed (f.clauses 𝓤 H A mem run) (WpFn 𝓤 H C Λ code.function) (λ κs. (ptr-vals, (slice-vals, (uint-vals w32, (uint-vals w16, (uint-vals w16, tt)))))) (λ κs. (mut-tells (named 0) (κs .0) T.the-row, (mut-slice-tells (named 1) (κs .1 .0) u16, (uint-tells w32, (uint-tells w16, (uint-tells w16, tt))))))
       (λ κs qs bounds a _ are. via 𝓤 _ (fst∗ 𝓤 _ (emp 𝓤)) (walk 𝓤 H A W mem run (κs .0) (κs .1 .0) (qs .0) (qs .1 .0) (a .0 .ptr .0) (a .0 .ptr .1) (a .0 .name) (a .0 .now) (a .1 .0 .ptr .0) (a .1 .0 .ptr .1) (a .1 .0 .name) (a .1 .0 .now) (a .1 .1 .0) (a .1 .1 .1 .0) (a .1 .1 .1 .1 .0) (are .1 .0 .0 .1) (are .1 .1 .0) (are .1 .1 .1 .0) (are .1 .1 .1 .1 .0) C Λ fm known))
 
   goes : AllGo 𝓤 H A W 2 (f.signature .params) (f.ended .kept) stayed
   goes = (goes-ref 𝓤 H A W 2 0 tt (plain (λ _. T.the-row)), (goes-gave-slice 𝓤 H A W 2 1 tt (plain (λ _. u16)), (goes-none 𝓤 H A W 2 (λ _. u32) yes (λ κs x f. refl), (goes-none 𝓤 H A W 2 (λ _. u16) yes (λ κs x f. refl), (goes-none 𝓤 H A W 2 (λ _. u16) yes (λ κs x f. refl), tt)))))
 
-kerb-link-meets : {M : Type 1} (𝓤 : URA M) (H : Heap 𝓤) (A : Atoms 𝓤) → Given 𝓤 H A → (mem : Memory → SProp 𝓤) (run : Routine → Fun 𝓤) (𝓣 : Tables 𝓤 H) → Triple 𝓤 (𝓣 .C #book·fields·link) (Callee 𝓤 H A mem run)
+kerb-link-meets : {M : Type 1} (𝓤 : URA M) (H : Heap 𝓤) (A : Atoms 𝓤) → Given 𝓤 H A → (mem : Memory → SProp 𝓤) (run : Routine → Fun 𝓤) (𝓣 : Tables 𝓤 H) → Triple 𝓤 (𝓣 .C #book_link·link) (Callee 𝓤 H A mem run)
     → Meets 𝓤 H A f.signature (WpFn 𝓤 H (𝓣 .C) (𝓣 .Λ) code.function) (f.spec 𝓤 H A mem run)
 kerb-link-meets 𝓤 H A W mem run 𝓣 known = walk-meets 𝓤 H A f.ended stayed W (goes 𝓤 H A W mem run) (f.clauses 𝓤 H A mem run) (WpFn 𝓤 H (𝓣 .C) (𝓣 .Λ) code.function) (WpFn-mono 𝓤 H (W .laws) 𝓣 code.function)
     (kerb-link-walks 𝓤 H A W mem run (𝓣 .C) (𝓣 .Λ) (fmOf 𝓤 H (W .laws) 𝓣) known)
@@ -233,4 +233,4 @@ kerb-link-spec 𝓤 H 𝓜 𝓖 𝓡 =
     entered 𝓤 H (tripleOf 𝓤 H (𝓖 .A) f.signature (f.spec 𝓤 H (𝓖 .A) (𝓜 .mem) (𝓡 .run)))
     (tables 𝓤 H 𝓜 𝓡 code.env .C) (tables 𝓤 H 𝓜 𝓡 code.env .Λ) #kerb_link·kerb-link code.function (code.unfolded 𝓤 H 𝓜 𝓡)
     (kerb-link-meets 𝓤 H (𝓖 .A) (givenOf 𝓤 H 𝓜 𝓖) (𝓜 .mem) (𝓡 .run) (tablesOf 𝓤 H 𝓜 (tables 𝓤 H 𝓜 𝓡 code.env))
-    (cited 𝓤 H (Callee 𝓤 H (𝓖 .A) (𝓜 .mem) (𝓡 .run)) 𝓜 𝓡 code.env #book·fields·link g-def.routine code.calls-book·fields·link (g-thm.met 𝓤 H 𝓜 𝓖 𝓡)))
+    (cited 𝓤 H (Callee 𝓤 H (𝓖 .A) (𝓜 .mem) (𝓡 .run)) 𝓜 𝓡 code.env #book_link·link g-def.routine code.calls-book-link·link (g-thm.met 𝓤 H 𝓜 𝓖 𝓡)))

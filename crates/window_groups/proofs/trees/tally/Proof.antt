@@ -6,7 +6,7 @@ use mathlib.Core.List.{List}
 use native.Mathlib.Omega.{arith}
 use native.Mathlib.Numerals.{add-one}
 use borrow.Author.Needs.{needs}
-use lib.ListN.{length, getD, replicate, getD-replicate}
+use lib.ListN.{length, getD}
 use Rattle.forest.specs.Arrays.{parentIn, labelIn}
 use Rattle.forest.proofs.Fill.{getD-within}
 use Rattle.book_state.specs.Arrays.{cells}
@@ -27,10 +27,7 @@ abbrev μ-loop : tie.MeasureT-loop
 
 loop-holds : tie.Need-loop-holds Inv-loop μ-loop
 unfolding smallest leastLabel
-loop-holds c = (tallied-none refl filled, tallied-none refl filled, tallied-none refl filled)
-  where
-    filled : {x : ℕ} (r : ℕ) → r < cells → getD (replicate cells x) r 0 ≡ x
-    filled {x} r h = getD-replicate 1024 r x 0 h
+loop-holds c = (tallied-none 0 refl, tallied-none 0 refl, tallied-none (c .args .top) refl)
 
 sub-cell : tie.Need-sub-cell Inv-loop μ-loop
 sub-cell c = omega arith

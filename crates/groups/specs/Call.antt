@@ -1,9 +1,10 @@
 -- The groups of a book's window as a call (RULES 8.9), for every book and every buffer: one total number, 1 or 6, the first check that
 -- fails; where it is 0 the groups go to the fronts of three lent outputs, and a refusal changes nothing.
-use Prim.Native.Nat.{ℕ, zero, suc}
+use Prim.Native.Nat.{ℕ, zero, suc, _≤_}
 use mathlib.Core.Path.{_≡_}
-use mathlib.Core.Bool.{Bool, _&&_}
+use mathlib.Core.Bool.{Bool}
 use mathlib.Core.List.{List, [], _∷_}
+use lib.ListN.{length}
 use Rattle.numbers.specs.Kinds.{Log, Number}
 use Rattle.numbers.specs.Checks.{firstOf, unless, has}
 use Rattle.numbers.specs.Front.{atFront}
@@ -11,9 +12,9 @@ use Rattle.book_state.specs.declared.Book.{Book}
 use Rattle.book_state.specs.Arrays.{cells}
 use Rattle.book_state.specs.Numbers.{logPlaces}
 use Rattle.book_state.specs.Order.{inOrder}
 use Rattle.window_groups.specs.declared.Groups.{Groups}
-use Rattle.window_groups.specs.declared.GroupsAnswer.{GroupsAnswer}
+use Rattle.groups.specs.declared.GroupsAnswer.{GroupsAnswer}
 use Rattle.window_groups.specs.Groups.{groupsOf}
 
 -- what is given, and what the three outputs hold afterwards
 pub record GroupsOutcome : Type 0 where
@@ -32,6 +33,12 @@ groupsNumberIn ordered log first size hold =
     ∷ unless (has cells size) 6
     ∷ unless (has cells hold) 6
     ∷ [])
+
+-- the three outputs have room for a number of each cell
+pub record Long (first size hold : List ℕ) : Type 0 where
+  pub first-long : cells ≤ length first
+  pub size-long : cells ≤ length size
+  pub hold-long : cells ≤ length hold
 
 -- of each cell its group's smallest cell, number of cells and least hold at the fronts; how many links the window holds
 unfoldable pub groupsByNumber : (number : Number) (groups : Groups) (first size hold : List ℕ) → GroupsOutcome

@@ -1,4 +1,4 @@
--- `book::fields::store` meets its contract: the spot is the open slide's, and each store is one of the definition's.
+-- `book_link::store` meets its contract: the spot is the open slide's, and each store is one of the definition's.
 use Prim.Native.Nat.{_<_}
 use mathlib.Core.Path.{_≡_, refl, sym, ap, _∙_}
 use native.Mathlib.Omega.{arith}
@@ -6,9 +6,9 @@ use borrow.Author.Needs.{needs}
 use lib.ListN.{getD, length-set}
 use Rattle.slides.specs.Clock.{chunkOf, placeOf}
 use Rattle.book_state.specs.Log.{halfOf, spotOf}
 use Rattle.book.specs.Calls.{openSpot, linkStored}
-use Rattle.book.proofs.fields.store.Statement.{statement}
-use Rattle.book.proofs.fields.store.Tie as tie
+use Rattle.book_link.proofs.store.Statement.{statement}
+use Rattle.book_link.proofs.store.Tie as tie
 
 abbrev entry : tie.After-spot → tie.Start
 entry c = c .before .before .before

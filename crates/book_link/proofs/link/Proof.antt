@@ -1,4 +1,4 @@
--- `book::fields::link` meets its contract: a book that is not in order gives 1 and stays as it is, and any other is linked.
+-- `book_link::link` meets its contract: a book that is not in order gives 1 and stays as it is, and any other is linked.
 use mathlib.Core.Path.{_≡_, refl, sym, _∙_}
 use native.Mathlib.Omega.{arith}
 use borrow.Author.Needs.{needs}
@@ -6,10 +6,10 @@ use borrow.Author.Tests.{not-true, not-false}
 use Rattle.book_state.specs.declared.Book.{Book}
 use Rattle.book_state.specs.Order.{bookOf}
 use Rattle.numbers.proofs.Checks.{fails}
 use Rattle.book.specs.Calls.{linkNumber, linkByNumber, linkOf}
 use Rattle.book.proofs.Taken.{refused}
-use Rattle.book.proofs.fields.link.Statement.{statement}
-use Rattle.book.proofs.fields.link.Tie as tie
+use Rattle.book_link.proofs.link.Statement.{statement}
+use Rattle.book_link.proofs.link.Tie as tie
 
 -- the book of the lent fields, at the function's entry
 abbrev book : tie.Start → Book

@@ -1,4 +1,4 @@
--- `book::checks::link_number` meets its contract: each test is one check of the definition's, two of them that of number 3.
+-- `book_link::link_number` meets its contract: each test is one check of the definition's, two of them that of number 3.
 use mathlib.Core.Path.{_≡_, refl, sym, _∙_}
 use mathlib.Core.Bool.{true}
 use mathlib.Core.List.{[], _∷_}
@@ -10,9 +10,9 @@ use Rattle.numbers.specs.Checks.{firstOf, unless, has}
 use Rattle.book_state.specs.Numbers.{logPlaces}
 use Rattle.numbers.proofs.Checks.{passes, fails, last-passes, has-length}
 use Rattle.book_state.proofs.Checks.{both-cells, first-no-cell, second-no-cell}
 use Rattle.book.specs.Calls.{linkNumberIn}
-use Rattle.book.proofs.checks.link_number.Statement.{statement}
-use Rattle.book.proofs.checks.link_number.Tie as tie
+use Rattle.book_link.proofs.link_number.Statement.{statement}
+use Rattle.book_link.proofs.link_number.Tie as tie
 
 -- the log has room, where the test of that was passed
 room : (c : tie.Else1) → has logPlaces (c .before .before .args .log .now) ≡ true

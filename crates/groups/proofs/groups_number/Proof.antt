@@ -1,4 +1,4 @@
--- `window_groups::groups_number` meets its contract: each test is one check of the definition's.
+-- `groups::groups_number` meets its contract: each test is one check of the definition's.
 use Prim.Native.Nat.{ℕ, _≤_, _<_}
 use mathlib.Core.Path.{_≡_, sym, _∙_}
 use mathlib.Core.Bool.{true, false}
@@ -7,8 +7,8 @@ use lib.ListN.{length}
 use borrow.Author.Tests.{le-leb, lt-leb, not-true, not-false}
 use Rattle.numbers.specs.Checks.{has}
 use Rattle.numbers.proofs.Checks.{passes, fails, last-passes, has-length}
-use Rattle.window_groups.proofs.groups_number.Statement.{statement}
-use Rattle.window_groups.proofs.groups_number.Tie as tie
+use Rattle.groups.proofs.groups_number.Statement.{statement}
+use Rattle.groups.proofs.groups_number.Tie as tie
 
 -- the checks that were passed, at the place where the last of them was
 ordered : (c : tie.Else1) → c .before .args .ordered ≡ true

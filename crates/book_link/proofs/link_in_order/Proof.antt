@@ -1,5 +1,5 @@
--- `book::fields::link_in_order` meets its contract: number 1 is not given, any other refusal changes nothing, and else the time moves,
--- and there is room for the link where it moves to (proofs/Taken.antt).
+-- `book_link::link_in_order` meets its contract: number 1 is not given, any other refusal changes nothing, and else the time moves,
+-- and there is room for the link where it moves to (crates/book/proofs/Taken.antt).
 use Prim.Native.Nat.{ℕ}
 use mathlib.Core.List.{List}
 use mathlib.Core.Path.{_≡_, refl, sym, ap, _∙_}
@@ -9,11 +9,11 @@ use Rattle.book_state.specs.declared.Book.{Book}
 use Rattle.book_state.specs.Order.{bookOf, inOrder}
 use Rattle.book_state.specs.Log.{stored, storedIn}
 use Rattle.book_time.specs.Time.{movedBook}
 use Rattle.book.specs.Calls.{Outcome, Gives, Room, linkNumberIn, linkNumber, linkStored, linkByNumber, linkOf}
 use Rattle.book_state.proofs.Checks.{readable}
 use Rattle.book.proofs.Taken.{refused, Taken, taken, link-room}
-use Rattle.book.proofs.fields.link_in_order.Statement.{statement}
-use Rattle.book.proofs.fields.link_in_order.Tie as tie
+use Rattle.book_link.proofs.link_in_order.Statement.{statement}
+use Rattle.book_link.proofs.link_in_order.Tie as tie
 
 -- the book of the lent fields, at the function's entry
 abbrev book : tie.Start → Book

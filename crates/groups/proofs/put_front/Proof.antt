@@ -1,4 +1,4 @@
--- `window_groups::put_front` meets its contract: after i turns, the first i numbers stand at the front.
+-- `groups::put_front` meets its contract: after i turns, the first i numbers stand at the front.
 use Prim.Native.Nat.{ℕ, zero, suc, _+_, _-_, _≤_, _<_}
 use mathlib.Core.Path.{_≡_, refl, sym, ap, _∙_}
 use mathlib.Core.List.{List, [], _∷_, _++_}
@@ -8,8 +8,8 @@ use borrow.Author.Needs.{needs}
 use lib.ListN.{length, getD, set, take, drop, length-set}
 use lib.Seq.{take-all}
 use Rattle.numbers.specs.Front.{atFront}
-use Rattle.window_groups.proofs.put_front.Statement.{statement}
-use Rattle.window_groups.proofs.put_front.Tie as tie
+use Rattle.groups.proofs.put_front.Statement.{statement}
+use Rattle.groups.proofs.put_front.Tie as tie
 
 -- one number more
 front-more : (i : ℕ) (told out : List ℕ) → i < length told → i < length out

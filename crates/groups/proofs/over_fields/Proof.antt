@@ -1,31 +1,24 @@
--- `window_groups::over_fields` meets its contract: a refusal changes nothing, and else a book in order with a long log can be read,
+-- `groups::over_fields` meets its contract: a refusal changes nothing, and else a book in order with a long log can be read,
 -- and each output has room for a number of each cell.
 use Prim.Native.Nat.{ℕ, zero, suc, _≤_}
 use mathlib.Core.Path.{_≡_, refl, sym, ap, _∙_}
 use mathlib.Core.Bool.{Bool, true}
-use mathlib.Core.List.{List, _++_}
-use native.Mathlib.Omega.{arith}
+use mathlib.Core.List.{List}
 use borrow.Author.Needs.{needs}
 use borrow.Author.Tests.{leb-true}
-use lib.ListN.{length, drop}
-use lib.Seq.{take-length}
+use lib.ListN.{length}
 use Rattle.numbers.specs.Checks.{has}
-use Rattle.numbers.specs.Front.{atFront}
 use Rattle.numbers.proofs.Checks.{first-passed, unless-passed, has-length}
-use Rattle.forest.proofs.Fill.{length-each}
-use Rattle.slides.specs.declared.Clock.{Clock}
 use Rattle.book_state.specs.declared.Book.{Book}
 use Rattle.book_state.specs.Arrays.{cells}
 use Rattle.book_state.specs.Numbers.{logPlaces}
 use Rattle.book_state.specs.Order.{bookOf, inOrder}
 use Rattle.book_state.specs.Log.{Readable}
 use Rattle.book_state.proofs.Checks.{readable}
-use Rattle.window.proofs.WindowLinks.{window-few}
 use Rattle.window_groups.specs.declared.Groups.{Groups}
-use Rattle.window_groups.specs.Groups.{groupsOf}
-use Rattle.window_groups.specs.Call.{groupsNumberIn, groupsByNumber, groupsGiven, GivesGroups}
-use Rattle.window_groups.proofs.over_fields.Statement.{statement}
-use Rattle.window_groups.proofs.over_fields.Tie as tie
+use Rattle.groups.specs.Call.{groupsNumberIn, Long, groupsByNumber, groupsGiven, GivesGroups}
+use Rattle.groups.proofs.over_fields.Statement.{statement}
+use Rattle.groups.proofs.over_fields.Tie as tie
 
 -- ---- what the definition gives
 
@@ -39,12 +32,10 @@ refused g first size hold {k} e failed = rw (← e) (unchanged k failed)
     unchanged (suc k) failed = record { answered = refl; firsts = refl; sizes = refl; holds = refl }
 
 -- every check is passed
-pub record Passed (ordered : Bool) (log first size hold : List ℕ) : Type 0 where
+record Passed (ordered : Bool) (log first size hold : List ℕ) : Type 0 where
   pub in-order : ordered ≡ true
   pub room : has logPlaces log ≡ true
-  pub first-long : cells ≤ length first
-  pub size-long : cells ≤ length size
-  pub hold-long : cells ≤ length hold
+  pub long : Long first size hold
 
 passed : (ordered : Bool) (log first size hold : List ℕ) → groupsNumberIn ordered log first size hold ≡ 0 → Passed ordered log first size hold
 passed ordered log first size hold e =
@@ -56,30 +47,16 @@ passed ordered log first size hold e =
     record {
       in-order = unless-passed _ _ (w₁ .0);
       room = unless-passed _ _ (w₂ .0);
-      first-long = long first (unless-passed _ _ (w₃ .0));
-      size-long = long size (unless-passed _ _ (w₄ .0));
-      hold-long = long hold (unless-passed _ _ (w₅ .0));
+      long =
+          record {
+            first-long = long first (unless-passed _ _ (w₃ .0));
+            size-long = long size (unless-passed _ _ (w₄ .0));
+            hold-long = long hold (unless-passed _ _ (w₅ .0));
+          };
     }
   where
     long : (l : List ℕ) → has cells l ≡ true → cells ≤ length l
     long l e = leb-true _ _ (sym (has-length cells l) ∙ e)
-
-module _ (clock : Clock) (counts log : List ℕ) {g : Groups} (is : g ≡ groupsOf clock counts log) where
-  first-length : length (g .first) ≡ cells
-  unfolding groupsOf
-  first-length = rw is (length-each _ cells)
-
-  count-length : length (g .count) ≡ cells
-  unfolding groupsOf
-  count-length = rw is (length-each _ cells)
-
-  hold-length : length (g .hold) ≡ cells
-  unfolding groupsOf
-  hold-length = rw is (length-each _ cells)
-
-  links-few : Readable (clock .n) counts log → g .links ≤ 4096
-  unfolding groupsOf
-  links-few r = rw is (window-few clock counts log r)
 
 -- ---- the code
 
@@ -129,28 +106,8 @@ found c = passed _ _ _ _ _ (numbered-0 c)
 can-read : (c : tie.Else1) → (let d = entry (c .before) in Readable (d .args .clock .n) (d .args .counts .now) (d .args .log .now))
 can-read c = readable (book (entry (c .before))) _ (found c .in-order) (found c .room)
 
-of-window-requires : tie.Need-of-window-requires
-of-window-requires c κs = can-read c
-
-put-front-requires : tie.Need-put-front-requires
-put-front-requires c κs =
-    let told = c .before .before .before .before in
-    omega (arith, first-length _ _ _ (told .of-window .ensures), found (told .before) .first-long)
-
-put-front-requires-2 : tie.Need-put-front-requires-2
-put-front-requires-2 c κs =
-    let told = c .before .before .before .before .before .before .before .before .before .before .before in
-    omega (arith, count-length _ _ _ (told .of-window .ensures), found (told .before) .size-long)
-
-copy-requires : tie.Need-copy-requires
-copy-requires c κs =
-    let told = c .before .before .before .before .before .before .before .before .before .before .before .before .before .before .before .before .before .before in
-    omega (arith, hold-length _ _ _ (told .of-window .ensures), found (told .before) .hold-long)
-
-cast-t50 : tie.Need-cast-t50
-cast-t50 c =
-    let told = c .before .before .before .before .before .before .before .before .before .before .before .before .before .before .before .before .before .before .before .before .before in
-    record { fits = omega (arith, links-few _ _ _ (told .of-window .ensures) (can-read (told .before))) }
+put-groups-requires : tie.Need-put-groups-requires
+put-groups-requires c κs = let asked = c .before .before .before in (can-read asked, found asked .long)
 
 same-length-4 : tie.Need-same-length-4
 same-length-4 c = search needs
@@ -162,19 +119,10 @@ same-length-6 : tie.Need-same-length-6
 same-length-6 c = search needs
 
 returns-2 : tie.Need-returns-2
-unfolding groupsGiven groupsByNumber
+unfolding groupsGiven
 returns-2 c =
-    let told = c .before .before .before .before .before .before .before .before .before .before .before .before .before .before .before .before .before .before .before .before .before in
-    let args = entry (told .before .before) .args in
-    let is = told .of-window .ensures in
-    let hold = told .of-window .result .hold in
-    rw (numbered-0 (told .before))
-    (record {
-      answered = ap (λ g. record { links = g .links; number = 0 }) is;
-      firsts = c .before .before .before .before .before .before .before .before .before .before .before .before .before .before .before .before .put-front .ensures ∙ ap (λ g. atFront (g .first) (args .first .now)) is;
-      sizes = c .before .before .before .before .before .before .before .before .before .put-front2 .ensures ∙ ap (λ g. atFront (g .count) (args .size .now)) is;
-      holds = c .before .before .copy .ensures .1 ∙ ap (λ front. front ++ drop (length hold) (args .hold .now)) (take-length hold) ∙ ap (λ g. atFront (g .hold) (args .hold .now)) is;
-    })
+    let put = c .before .before .before .before .before .before in
+    rw (numbered-0 (put .before .before .before .before)) (put .put-groups .ensures)
 
 pub over-fields-spec : {M : Type 1} → statement M
 over-fields-spec =
@@ -186,11 +134,7 @@ over-fields-spec =
     same-length-2
     same-length-3
     returns
-    of-window-requires
-    put-front-requires
-    put-front-requires-2
-    copy-requires
-    cast-t50
+    put-groups-requires
     same-length-4
     same-length-5
     same-length-6
