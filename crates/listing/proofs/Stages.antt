@@ -1,5 +1,5 @@
 -- The text of a file, stage by stage: what reading, opening and playing give decides it. A book that was opened and played into
--- can be listed (`playing`, proofs/Playing.antt).
+-- can be listed (crates/file_play/proofs/Playing.antt).
 use Prim.Native.Nat.{ℕ, zero, suc, _*_, _≤_}
 use mathlib.Core.Path.{_≡_, refl, sym, ap, _∙_}
 use mathlib.Core.Bool.{Bool, true, false}
