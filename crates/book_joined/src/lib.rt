@@ -1,6 +1,7 @@
 // The joined call: four walks, always all four; and where neither forest alone decides, the crossing.
 use book_state::CELLS;
 use book_state::STEP_LIMIT;
+use book_state::are_cells;
 use book_state::order;
 use cells::Fitting;
 use forest::PLACES;
@@ -56,10 +57,7 @@ pub fn over_fields<'a>(
     if !ordered {
         return refused(1);
     }
-    if CELLS <= one {
-        return refused(3);
-    }
-    if CELLS <= other {
+    if !are_cells(one, other) {
         return refused(3);
     }
     let cut = cut(clock);

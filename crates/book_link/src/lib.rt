@@ -1,8 +1,8 @@
 // The link call: number 1 first, then the other checks; a link that is taken moves the time and is stored in the open slide. What it gives is
 // defined with the other calls (crates/book/specs/Calls.antt).
 use book::fields::FieldsAnswer;
-use book_state::CELLS;
 use book_state::STEP_LIMIT;
+use book_state::are_cells;
 use book_state::order;
 use book_state::spots;
 use cells::Fitting;
@@ -74,10 +74,7 @@ fn link_number(clock: Clock, held: u16, log: &[u16], tick: u32, one: u16, other:
     if log.len() < 16384 {
         return 6;
     }
-    if CELLS <= one {
-        return 3;
-    }
-    if CELLS <= other {
+    if !are_cells(one, other) {
         return 3;
     }
     if !slides::not_before(clock, tick) {

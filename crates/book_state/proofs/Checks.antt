@@ -7,7 +7,7 @@ use mathlib.Core.List.{List, [], _∷_}
 use native.Mathlib.Omega.{arith}
 use native.Mathlib.Nat.{suc-le-suc-iff}
 use native.Mathlib.Decide.{decLt}
-use borrow.Author.Tests.{leb-true, lt-ltb, le-ltb}
+use borrow.Author.Tests.{leb-true, ltb-true}
 use lib.ListN.{length, getD, List·getD-eq-default}
 use Rattle.settings.specs.Settings.{heldInRange}
 use Rattle.slides.specs.Clock.{clockInRange}
@@ -24,14 +24,8 @@ use Rattle.book_state.specs.Order.{inOrderOf, inOrder, neverOpened}
 
 -- ---- both are cells
 
-pub both-cells : {one other : ℕ} → one < cells → other < cells → areCells one other ≡ true
-both-cells p q = simp (lt-ltb _ _ p, lt-ltb _ _ q)
-
-pub first-no-cell : {one : ℕ} (other : ℕ) → cells ≤ one → areCells one other ≡ false
-first-no-cell other p = simp (le-ltb _ _ p)
-
-pub second-no-cell : {one other : ℕ} → one < cells → cells ≤ other → areCells one other ≡ false
-second-no-cell p q = simp (lt-ltb _ _ p, le-ltb _ _ q)
+pub two-cells : {one other : ℕ} → areCells one other ≡ true → (one < cells) × (other < cells)
+two-cells e = let both = and-eq-true-iff _ _ .0 e in (ltb-true _ _ (both .0), ltb-true _ _ (both .1))
 
 -- ---- a book in order
 

@@ -5,12 +5,23 @@ pub mod spots; // spots.rt: where the links of a slide are counted and logged
 
 use forest::PLACES;
 ghost use mathlib.Core.Path.{_≡_};
+ghost use Rattle.book_state.specs.Numbers.{areCells};
 ghost use Rattle.book_state.specs.Order.{neverOpened};
 
 // How many cells a book has, and how many steps number 1 allows a walk.
 pub const CELLS: u16 = 1024;
 
 pub const STEP_LIMIT: u8 = 10;
+
+// Whether both are cells: number 3 asks it of a call's cells, and a pair of the log is a link where it is so.
+pub fn are_cells(one: u16, other: u16) -> bool
+    ensures { λ r. ⌜ r ≡ areCells one other ⌝ }
+{
+    if CELLS <= one {
+        return false;
+    }
+    other < CELLS
+}
 
 // The settings and the latest time, the links stored in each place of the last two chunks, and the two forests.
 #[repr(C)]

@@ -1,6 +1,6 @@
 // The step of time: within a chunk nothing else changes; into the next chunk the backward forest is built from the chunk
 // that ends; further, nothing is left.
-use book_state::CELLS;
+use book_state::are_cells;
 use book_state::spots;
 use forest::PLACES;
 use slides::Clock;
@@ -174,10 +174,7 @@ fn unite_pair(
     ensures { λ _. ⌜ arraysOf (now (parent .exit)) (now (size .exit)) (now (label .exit)) ≡ unitedAll (arraysOf (now (parent .entry)) (now (size .entry)) (now (label .entry))) (map (labelled place) (keep (record { one = one; other = other }) [])) ⌝ }
     ensures { λ _. ⌜ Beside (arraysOf (now (parent .exit)) (now (size .exit)) (now (label .exit))) (now (scratch .exit)) (now (tops .exit)) ⌝ }
 {
-    if CELLS <= one {
-        return;
-    }
-    if CELLS <= other {
+    if !are_cells(one, other) {
         return;
     }
     forest_beside::unite(parent, size, label, scratch, tops, place, one, other);

@@ -18,12 +18,10 @@ use Rattle.graph.proofs.Cut.{each-map, all-at-least}
 use Rattle.slides.specs.Clock.{openSlide}
 use Rattle.slides.specs.declared.Clock.{Clock}
 use Rattle.book_state.specs.declared.Book.{Book}
-use Rattle.book_state.specs.Arrays.{cells}
 use Rattle.book_state.specs.Order.{inOrder}
 use Rattle.numbers.specs.Checks.{firstOf, unless, has}
-use Rattle.book_state.specs.Numbers.{logPlaces}
+use Rattle.book_state.specs.Numbers.{logPlaces, areCells}
 use Rattle.numbers.proofs.Checks.{passes, fails, last-passes, has-length}
-use Rattle.book_state.proofs.Checks.{both-cells, first-no-cell, second-no-cell}
 use Rattle.window.specs.Window.{windowSlides, linksFromAge, windowLinks, linksFromLabel}
 use Rattle.window.specs.Gathered.{LinksPut}
 use Rattle.window.proofs.Gathered.{blank, Fronts, put-many, put-long, put-fronts}
@@ -70,22 +68,18 @@ module _ (b : Book) (log chain : List ℕ) (one other : ℕ) where
         both-rooms : (has logPlaces log && has chainPlaces chain) ≡ true
         both-rooms = ap (λ t. t && has chainPlaces chain) room ∙ has-length chainPlaces chain ∙ le-leb chainPlaces (length chain) places
 
-        pub not-one : cells ≤ one → chainNumber b log chain one other ≡ 3
+        pub no-cells : areCells one other ≡ false → chainNumber b log chain one other ≡ 3
         unfolding chainNumber
-        not-one h = passes 1 _ e ∙ passes 6 _ both-rooms ∙ fails 2 _ (first-no-cell other h)
-
-        pub not-other : one < cells → cells ≤ other → chainNumber b log chain one other ≡ 3
-        unfolding chainNumber
-        not-other h k = passes 1 _ e ∙ passes 6 _ both-rooms ∙ fails 2 _ (second-no-cell h k)
+        no-cells not = passes 1 _ e ∙ passes 6 _ both-rooms ∙ fails 2 _ not
 
         -- what is left is asked of the window
-        pub call-answered : {r : ChainAnswer} {after : List ℕ} → one < cells → other < cells
+        pub call-answered : {r : ChainAnswer} {after : List ℕ} → areCells one other ≡ true
             → GivesChain (windowChain (b .clock) (b .counts) log chain one other) r after → GivesChain (chainOf b log chain one other) r after
         unfolding chainNumber chainOf
-        call-answered h k given = rw left given
+        call-answered are given = rw left given
           where
             left : chainNumber b log chain one other ≡ firstOf (windowChecks (b .clock) (b .counts) log one other)
-            left = passes 1 _ e ∙ passes 6 _ both-rooms ∙ passes 3 _ (both-cells h k)
+            left = passes 1 _ e ∙ passes 6 _ both-rooms ∙ passes 3 _ are
 
 -- ---- an answerable call
 

@@ -2,7 +2,6 @@
 // further closings the two stay joined.
 mod answer; // answer.rt: the answer for a book in order, two cells and buffers that are long enough
 
-use book_state::CELLS;
 use cells::Fitting;
 use forest::PLACES;
 use slides::Clock;
@@ -58,10 +57,7 @@ pub fn over_fields<'a>(
     if chain.len() < 1024 {
         return answer::refused(6);
     }
-    if CELLS <= one {
-        return answer::refused(3);
-    }
-    if CELLS <= other {
+    if !book_state::are_cells(one, other) {
         return answer::refused(3);
     }
     answer::answer(clock, counts, log, one, other, chain)

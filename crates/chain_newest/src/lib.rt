@@ -1,6 +1,6 @@
 // The newest label from which on links of the window chain two cells. The links are joined slide by slide, newest first, in scratch
 // parents, up to the link with which the two cells meet: its label is the one, and older links are not read.
-use book_state::CELLS;
+use book_state::are_cells;
 use forest::PLACES;
 use forest_scratch::Roots;
 use forest_scratch::join;
@@ -74,10 +74,7 @@ fn join_pair(one: u16, other: u16, parent: &mut [u16; PLACES], from: Roots) -> R
     requires { ⌜ Descends (now parent) ⌝ }
     ensures { λ r. ⌜ Follows (keep (record { one = one; other = other }) []) (now (parent .entry)) from (now (parent .exit)) r ⌝ }
 {
-    if CELLS <= one {
-        return from;
-    }
-    if CELLS <= other {
+    if !are_cells(one, other) {
         return from;
     }
     let r = join(parent, one, other);

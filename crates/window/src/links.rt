@@ -1,5 +1,5 @@
 // The links of a slide, from the log into three arrays: link i joins ones[i] and others[i] and has the label labels[i].
-use book_state::CELLS;
+use book_state::are_cells;
 use slides::Clock;
 ghost use mathlib.Core.List.{map, []};
 ghost use Prim.Native.Nat.{_+_, _*_, _≤_, _<_};
@@ -80,10 +80,7 @@ fn put_pair(
         ⌜ LinksPut (map (labelled label) (keep (record { one = one; other = other }) []))
         at (now (ones .entry)) (now (others .entry)) (now (labels .entry)) r (now (ones .exit)) (now (others .exit)) (now (labels .exit)) ⌝ }
 {
-    if CELLS <= one {
-        return at;
-    }
-    if CELLS <= other {
+    if !are_cells(one, other) {
         return at;
     }
     ones[at] = one;

@@ -1,15 +1,17 @@
 -- `chain::over_fields` meets its contract: the checks come in the order 1, 6, 3 (proofs/ChainCall.antt), and 7 and 8 are left to
 -- the answer.
+use Prim.Native.Nat.{_<_}
 use mathlib.Core.Path.{_≡_, sym, _∙_}
 use mathlib.Core.Bool.{true}
 use borrow.Author.Tests.{le-leb, not-true, not-false}
 use Rattle.book_state.specs.declared.Book.{Book}
 use Rattle.book_state.specs.Order.{bookOf, inOrder}
 use Rattle.numbers.specs.Checks.{has}
-use Rattle.book_state.specs.Numbers.{logPlaces}
+use Rattle.book_state.specs.Arrays.{cells}
+use Rattle.book_state.specs.Numbers.{logPlaces, areCells}
 use Rattle.numbers.proofs.Checks.{has-length}
-use Rattle.book_state.proofs.Checks.{readable}
-use Rattle.chain.proofs.ChainCall.{call-refused, out-of-order, short-log, short-chain, not-one, not-other, call-answered}
+use Rattle.book_state.proofs.Checks.{readable, two-cells}
+use Rattle.chain.proofs.ChainCall.{call-refused, out-of-order, short-log, short-chain, no-cells, call-answered}
 use borrow.Author.Needs.{needs}
 use Rattle.chain.proofs.over_fields.Statement.{statement}
 use Rattle.chain.proofs.over_fields.Tie as tie
@@ -54,47 +56,47 @@ returns-3 c =
     let second = c .before .before in
     call-refused _ _ _ _ _ (short-chain _ _ _ _ _ (ordered (second .before)) (room second) (c .before .if3 .taken)) (c .refused3 .ensures)
 
+are-cells-requires : tie.Need-are-cells-requires
+are-cells-requires c κs = search needs
+
 refused-requires-4 : tie.Need-refused-requires-4
 refused-requires-4 c κs = search needs
 
 returns-4 : tie.Need-returns-4
 returns-4 c =
-    let third = c .before .before in
+    let asked = c .before .before in
+    let third = asked .before in
     let second = third .before in
-    call-refused _ _ _ _ _ (not-one _ _ _ _ _ (ordered (second .before)) (room second) (third .if3 .left) (c .before .if4 .taken)) (c .refused4 .ensures)
+    call-refused _ _ _ _ _ (no-cells _ _ _ _ _ (ordered (second .before)) (room second) (third .if3 .left) (sym (asked .are-cells .ensures) ∙ not-true _ (c .before .if4 .taken))) (c .refused4 .ensures)
 
-refused-requires-5 : tie.Need-refused-requires-5
-refused-requires-5 c κs = search needs
+-- where both are cells
+are : (c : tie.Else4) → (let args = entry (c .before .before .before .before .before) .args in areCells (args .one) (args .other) ≡ true)
+are c = sym (c .before .are-cells .ensures) ∙ not-false _ (c .if4 .left)
 
-returns-5 : tie.Need-returns-5
-returns-5 c =
-    let fourth = c .before .before in
-    let third = fourth .before in
-    let second = third .before in
-    call-refused _ _ _ _ _ (not-other _ _ _ _ _ (ordered (second .before)) (room second) (third .if3 .left) (fourth .if4 .left) (c .before .if5 .taken)) (c .refused5 .ensures)
+both : (c : tie.Else4) → (let args = entry (c .before .before .before .before .before) .args in (args .one < cells) × (args .other < cells))
+both c = two-cells (are c)
 
 answer-requires : tie.Need-answer-requires
 answer-requires c κs =
-    let fourth = c .before .before in
-    let third = fourth .before in
+    let fourth = c .before in
+    let third = fourth .before .before in
     let second = third .before in
     record {
       readable = readable _ _ (ordered (second .before)) (room second);
       chain-room = third .if3 .left;
-      one-cell = fourth .if4 .left;
-      other-cell = c .before .if5 .left;
+      one-cell = both fourth .0;
+      other-cell = both fourth .1;
     }
 
 same-length : tie.Need-same-length
 same-length c = search needs
 
-returns-6 : tie.Need-returns-6
-returns-6 c =
-    let fifth = c .before .before .before .before in
-    let fourth = fifth .before in
-    let third = fourth .before in
+returns-5 : tie.Need-returns-5
+returns-5 c =
+    let fourth = c .before .before .before .before in
+    let third = fourth .before .before in
     let second = third .before in
-    call-answered _ _ _ _ _ (ordered (second .before)) (room second) (third .if3 .left) (fourth .if4 .left) (fifth .if5 .left) (c .before .before .answer .ensures)
+    call-answered _ _ _ _ _ (ordered (second .before)) (room second) (third .if3 .left) (are fourth) (c .before .before .answer .ensures)
 
 pub over-fields-spec : {M : Type 1} → statement M
 over-fields-spec =
@@ -107,10 +109,9 @@ over-fields-spec =
     returns-2
     refused-requires-3
     returns-3
+    are-cells-requires
     refused-requires-4
     returns-4
-    refused-requires-5
-    returns-5
     answer-requires
     same-length
-    returns-6)
+    returns-5)

@@ -1,15 +1,16 @@
 -- `window::links::put_pair` meets its contract: a pair of cells is one link, and any other pair is none.
+use mathlib.Core.Path.{sym, _∙_}
 use borrow.Author.Needs.{needs}
-use borrow.Author.Tests.{lt-ltb, le-ltb}
+use borrow.Author.Tests.{not-true, not-false}
 use Rattle.window.proofs.Putting.{put-none, put-one}
 use Rattle.window.proofs.links.put_pair.Statement.{statement}
 use Rattle.window.proofs.links.put_pair.Tie as tie
 
-returns : tie.Need-returns
-returns c = simp (le-ltb _ _ (c .if1 .taken)) put-none
+are-cells-requires : tie.Need-are-cells-requires
+are-cells-requires c κs = search needs
 
-returns-2 : tie.Need-returns-2
-returns-2 c = simp (lt-ltb _ _ (c .before .if1 .left), le-ltb _ _ (c .if2 .taken)) put-none
+returns : tie.Need-returns
+returns c = rw (sym (c .before .are-cells .ensures) ∙ not-true _ (c .if1 .taken)) put-none
 
 mul-ones : tie.Need-mul-ones
 mul-ones c = search needs
@@ -29,19 +30,19 @@ element-write-labels c = search needs
 add-result : tie.Need-add-result
 add-result c = search needs
 
-returns-3 : tie.Need-returns-3
-returns-3 c = simp (lt-ltb _ _ (c .before .if1 .left), lt-ltb _ _ (c .if2 .left)) (put-one _)
+returns-2 : tie.Need-returns-2
+returns-2 c = rw (sym (c .before .are-cells .ensures) ∙ not-false _ (c .if1 .left)) (put-one _)
 
 pub put-pair-spec : {M : Type 1} → statement M
 put-pair-spec =
     tie.close
     (tie.spec
+    are-cells-requires
     returns
-    returns-2
     mul-ones
     element-write-ones
     mul-others
     element-write-others
     element-write-labels
     add-result
-    returns-3)
+    returns-2)
