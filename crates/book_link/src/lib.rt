@@ -51,6 +51,9 @@ pub fn link(
         };
     }
     link_in_order(
+        tick,
+        one,
+        other,
         clock,
         fitting,
         counts,
@@ -60,9 +63,6 @@ pub fn link(
         backward_size,
         backward_label,
         log,
-        tick,
-        one,
-        other,
     )
 }
 
@@ -89,6 +89,9 @@ fn link_number(clock: Clock, held: u16, log: &[u16], tick: u32, one: u16, other:
 // The same for a book that is known to be in order: number 1 is not asked. The time moves first, and only for a link that is
 // taken.
 pub fn link_in_order(
+    tick: u32,
+    one: u16,
+    other: u16,
     clock: Clock,
     fitting: Fitting,
     counts: &mut [u16; 32],
@@ -98,13 +101,13 @@ pub fn link_in_order(
     backward_size: &mut [u16; PLACES],
     backward_label: &mut [u8; PLACES],
     log: &mut [u16],
-    tick: u32,
-    one: u16,
-    other: u16,
 ) -> FieldsAnswer
     requires { ⌜ inOrderOf clock fitting (now counts) (now «forward_parent») (now «forward_size») (now «backward_parent») (now «backward_size») (now «backward_label») ≡ true ⌝ }
     ensures { λ r. ⌜ GivesFields (linkOf (bookOf clock fitting (now (counts .entry)) (now («forward_parent» .entry)) (now («forward_size» .entry)) (now («backward_parent» .entry)) (now («backward_size» .entry)) (now («backward_label» .entry))) (now (log .entry)) tick one other) r (now (counts .exit)) (now («forward_parent» .exit)) (now («forward_size» .exit)) (now («backward_parent» .exit)) (now («backward_size» .exit)) (now («backward_label» .exit)) (now (log .exit)) ⌝ }
 {
+    // Before the slides are worked out, so that the compiler can see that `move_to` works out the same ones.
+    let first = cells::lorry_cell(fitting, one);
+    let second = cells::lorry_cell(fitting, other);
     let held = spots::stored(clock, counts, slides::slide(clock, tick));
     let number = link_number(clock, held, log, tick, one, other);
     if number != 0 {
@@ -114,8 +117,6 @@ pub fn link_in_order(
             number,
         };
     }
-    let first = cells::lorry_cell(fitting, one);
-    let second = cells::lorry_cell(fitting, other);
     let moved = book_time::move_to(
         clock,
         counts,
