@@ -15,8 +15,8 @@ use Rattle.pledges.specs.Single.{
   freshenFn,
   moveToFn,
   fieldsOpeningFn,
-  fieldsLinkFn,
-  fieldsLinkInOrderFn,
+  linkFn,
+  linkInOrderFn,
   fieldsClockFn,
   gatherFn,
   gatherNewestFn,
@@ -61,12 +61,12 @@ single =
       book-fields-opening = single-claim fieldsOpeningFn (λ w κs a g r e. refl) λ κs a r s p q i.
           let o : Answer = equal (p .answered) (q .answered) i in
           answerOf o ▸ tt ▸ tt ▸ arrays (o .book) (equal (p .logged) (q .logged) i ▸ tt ▸ tt);
-      book-fields-link = single-claim fieldsLinkFn (λ w κs a g r e. refl) λ κs a r s p q i.
+      book-link-link = single-claim linkFn (λ w κs a g r e. refl) λ κs a r s p q i.
           let o : Answer = equal (p .answered) (q .answered) i in
           answerOf o ▸ tt ▸ tt ▸ arrays (o .book) (equal (p .logged) (q .logged) i ▸ tt ▸ tt ▸ tt ▸ tt);
-      book-fields-link-in-order = single-claim fieldsLinkInOrderFn (λ w κs a g r e. refl) λ κs a r s p q i.
+      book-link-link-in-order = single-claim linkInOrderFn (λ w κs a g r e. refl) λ κs a r s p q i.
           let o : Answer = equal (p .answered) (q .answered) i in
-          answerOf o ▸ tt ▸ tt ▸ arrays (o .book) (equal (p .logged) (q .logged) i ▸ tt ▸ tt ▸ tt ▸ tt);
+          answerOf o ▸ tt ▸ tt ▸ tt ▸ tt ▸ tt ▸ arrays (o .book) (equal (p .logged) (q .logged) i ▸ tt);
       book-fields-clock = single-claim fieldsClockFn (λ w κs a g r e. refl) λ κs a r s p q i.
           let o : Answer = equal (p .answered) (q .answered) i in
           answerOf o ▸ tt ▸ tt ▸ arrays (o .book) (tt ▸ tt ▸ tt);
@@ -84,7 +84,7 @@ single =
       file-play-play-file = single-claim playFileFn (λ w κs a g r e. refl) λ κs a r s p q i.
           let b : Book = equal (p .kept) (q .kept) i in
           record { clock = b .clock; fitting = b .fitting; answer = equal (p .answered) (q .answered) i } ▸ tt ▸ tt ▸ arrays b (equal (p .logged) (q .logged) i ▸ tt ▸ tt);
-      window-groups-over-fields = single-claim groupsOverFn (λ w κs a g r e. refl) λ κs a r s p q i.
+      groups-over-fields = single-claim groupsOverFn (λ w κs a g r e. refl) λ κs a r s p q i.
           equal (p .answered) (q .answered) i ▸ tt ▸ tt ▸ tt ▸ tt ▸ tt ▸ tt ▸ tt ▸ tt ▸ tt ▸ equal (p .firsts) (q .firsts) i
           ▸ equal (p .sizes) (q .sizes) i ▸ equal (p .holds) (q .holds) i ▸ tt;
       text-put-word = single-claim putWordFn (λ w κs a g r e. refl) λ κs a r s p q i.

@@ -4,8 +4,8 @@
 use Rattle.book_time.proofs.freshen
 use Rattle.book_time.proofs.move_to
 use Rattle.book.proofs.fields.opening as fields_opening
-use Rattle.book_link.proofs.link as fields_link
-use Rattle.book_link.proofs.link_in_order as fields_link_ordered
+use Rattle.book_link.proofs.link as book_link
+use Rattle.book_link.proofs.link_in_order as book_link_ordered
 use Rattle.book.proofs.fields.clock as fields_clock
 use Rattle.window.proofs.gather
 use Rattle.window.proofs.gather_newest
@@ -32,11 +32,11 @@ moveToFn = record { ended = move_to.ended; clauses = λ M. move_to.clauses; rout
 abbrev pub fieldsOpeningFn : Exported
 fieldsOpeningFn = record { ended = fields_opening.ended; clauses = λ M. fields_opening.clauses; routine = fields_opening.Symbol.routine }
 
-abbrev pub fieldsLinkFn : Exported
-fieldsLinkFn = record { ended = fields_link.ended; clauses = λ M. fields_link.clauses; routine = fields_link.Symbol.routine }
+abbrev pub linkFn : Exported
+linkFn = record { ended = book_link.ended; clauses = λ M. book_link.clauses; routine = book_link.Symbol.routine }
 
-abbrev pub fieldsLinkInOrderFn : Exported
-fieldsLinkInOrderFn = record { ended = fields_link_ordered.ended; clauses = λ M. fields_link_ordered.clauses; routine = fields_link_ordered.Symbol.routine }
+abbrev pub linkInOrderFn : Exported
+linkInOrderFn = record { ended = book_link_ordered.ended; clauses = λ M. book_link_ordered.clauses; routine = book_link_ordered.Symbol.routine }
 
 abbrev pub fieldsClockFn : Exported
 fieldsClockFn = record { ended = fields_clock.ended; clauses = λ M. fields_clock.clauses; routine = fields_clock.Symbol.routine }
@@ -87,8 +87,8 @@ pub record Single : Type 2 where
   pub book-time-freshen : SingleResult freshenFn
   pub book-time-move-to : SingleResult moveToFn
   pub book-fields-opening : SingleResult fieldsOpeningFn
-  pub book-fields-link : SingleResult fieldsLinkFn
-  pub book-fields-link-in-order : SingleResult fieldsLinkInOrderFn
+  pub book-link-link : SingleResult linkFn
+  pub book-link-link-in-order : SingleResult linkInOrderFn
   pub book-fields-clock : SingleResult fieldsClockFn
   pub window-gather : SingleResult gatherFn
   pub window-gather-newest : SingleResult gatherNewestFn
@@ -96,7 +96,7 @@ pub record Single : Type 2 where
   pub chain-over-fields : SingleResult chainOverFn
   pub file-play-over-fields : SingleResult playOverFn
   pub file-play-play-file : SingleResult playFileFn
-  pub window-groups-over-fields : SingleResult groupsOverFn
+  pub groups-over-fields : SingleResult groupsOverFn
   pub text-put-word : SingleResult putWordFn
   pub text-put-fields : SingleResult putFieldsFn
   pub text-put-line : SingleResult putLineFn
