@@ -105,9 +105,6 @@ pub fn link_in_order(
     requires { ⌜ inOrderOf clock fitting (now counts) (now «forward_parent») (now «forward_size») (now «backward_parent») (now «backward_size») (now «backward_label») ≡ true ⌝ }
     ensures { λ r. ⌜ GivesFields (linkOf (bookOf clock fitting (now (counts .entry)) (now («forward_parent» .entry)) (now («forward_size» .entry)) (now («backward_parent» .entry)) (now («backward_size» .entry)) (now («backward_label» .entry))) (now (log .entry)) tick one other) r (now (counts .exit)) (now («forward_parent» .exit)) (now («forward_size» .exit)) (now («backward_parent» .exit)) (now («backward_size» .exit)) (now («backward_label» .exit)) (now (log .exit)) ⌝ }
 {
-    // Before the slides are worked out, so that the compiler can see that `move_to` works out the same ones.
-    let first = cells::lorry_cell(fitting, one);
-    let second = cells::lorry_cell(fitting, other);
     let held = spots::stored(clock, counts, slides::slide(clock, tick));
     let number = link_number(clock, held, log, tick, one, other);
     if number != 0 {
@@ -117,6 +114,8 @@ pub fn link_in_order(
             number,
         };
     }
+    let first = cells::lorry_cell(fitting, one);
+    let second = cells::lorry_cell(fitting, other);
     let moved = book_time::move_to(
         clock,
         counts,

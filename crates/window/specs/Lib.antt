@@ -1,4 +1,3 @@
 pub mod Gathered
 pub mod LabelsFall
-pub mod LinkForest
 pub mod Window

@@ -15,9 +15,9 @@ use Rattle.book_state.proofs.Built.{each-reverse}
 use Rattle.window.specs.Window.{windowLinks}
 use Rattle.window.proofs.Falling.{falls-reverse}
 use Rattle.window.proofs.WindowLinks.{window-ends, window-labels, window-falls}
-use Rattle.window.specs.LinkForest.{grownFrom}
-use Rattle.window.specs.declared.LinkForest.{LinkForest}
-use Rattle.window.proofs.WindowForest.{chained-reverse, parents-are, labels-are, parents-long}
+use Rattle.window_forest.specs.LinkForest.{grownFrom}
+use Rattle.window_forest.specs.declared.LinkForest.{LinkForest}
+use Rattle.window_forest.proofs.WindowForest.{chained-reverse, parents-are, labels-are, parents-long}
 use Rattle.window_groups.specs.declared.trees.Tallies.{Tallies}
 use Rattle.window_groups.specs.Groups.{smallest, groupOf, leastHold, groupsOf}
 use Rattle.window_groups.specs.Trees.{treeOf, leastLabel, groupsAt}

@@ -27,7 +27,7 @@ pub fn of_window(clock: Clock, counts: &[u16; 32], log: &[u16]) -> Groups
     let mut others = [0u16; 4096];
     let mut labels = [0u8; 4096];
     let count = window::gather(clock, counts, log, &mut ones, &mut others, &mut labels);
-    let forest = window::grow(&ones, &others, &labels, count);
+    let forest = window_forest::grow(&ones, &others, &labels, count);
     let root = forest_walk::roots(&forest.parent, STEP_LIMIT);
     let tallies = trees::tally(&root, &forest.parent, &forest.label, clock.n + 1);
     trees::at_roots(&root, tallies, count)

@@ -22,7 +22,7 @@ book c =
 
 -- the entry, from where the number is known
 abbrev entry : tie.After-link-number → tie.Start
-entry c = c .before .before .before .before .before .before .before .before .before
+entry c = c .before .before .before .before .before .before .before
 
 numbered : (c : tie.After-link-number) → (let d = entry c in c .link-number .result ≡ linkNumber (book d) (d .args .log .now) (d .args .tick) (d .args .one) (d .args .other))
 unfolding linkNumber stored
@@ -33,12 +33,6 @@ numbered c =
     c .link-number .ensures
     ∙ ap (λ t. linkNumberIn t (args .clock) (c .before .before .stored .result) (args .log .now) (args .tick) (args .one) (args .other)) (sym (d .pre))
     ∙ ap (λ k. linkNumberIn (inOrder (book d)) (args .clock) k (args .log .now) (args .tick) (args .one) (args .other)) held
-
-lorry-cell-requires : tie.Need-lorry-cell-requires
-lorry-cell-requires c κs = search needs
-
-lorry-cell-requires-2 : tie.Need-lorry-cell-requires-2
-lorry-cell-requires-2 c κs = search needs
 
 slide-requires : tie.Need-slide-requires
 slide-requires c κs = search needs
@@ -62,15 +56,21 @@ returns c =
 numbered-0 : (c : tie.Else1) → (let d = entry (c .before) in linkNumber (book d) (d .args .log .now) (d .args .tick) (d .args .one) (d .args .other) ≡ 0)
 numbered-0 c = sym (numbered (c .before)) ∙ c .if1 .left
 
+lorry-cell-requires : tie.Need-lorry-cell-requires
+lorry-cell-requires c κs = search needs
+
+lorry-cell-requires-2 : tie.Need-lorry-cell-requires-2
+lorry-cell-requires-2 c κs = search needs
+
 move-to-requires : tie.Need-move-to-requires
 move-to-requires c κs =
-    let d = c .before .before .before .before .before .before .before in
+    let d = c .before .before .before .before .before .before .before .before .before in
     let t = taken (book (entry (d .before))) _ _ _ _ (numbered-0 d) in
     readable _ _ (t .in-order) (t .room)
 
 -- where the link is taken, from where the time has moved
 abbrev taken-of : tie.After-move-to → tie.Else1
-taken-of c = c .before .before .before .before .before .before .before .before
+taken-of c = c .before .before .before .before .before .before .before .before .before .before
 
 store-requires : tie.Need-store-requires
 store-requires c κs =
@@ -94,11 +94,10 @@ unfolding linkOf linkByNumber
 returns-2 c =
     let s = c .before .before in
     let m = s .before .before .before .before .before in
-    let numbered = taken-of m .before in
-    let d = entry numbered in
+    let d = entry (taken-of m .before) in
     let b = book d in
     let log = d .args .log .now in
-    let second = numbered .before .before .before .before .before .before in
+    let second = m .before .before .before .before .before .before .before .before in
     rw (numbered-0 (taken-of m))
     (gives
     (s .store .ensures (d .args .fitting) _ _ _
@@ -110,13 +109,13 @@ pub link-in-order-spec : {M : Type 1} → statement M
 link-in-order-spec =
     tie.close
     (tie.spec
-    lorry-cell-requires
-    lorry-cell-requires-2
     slide-requires
     stored-requires
     link-number-requires
     same-length
     returns
+    lorry-cell-requires
+    lorry-cell-requires-2
     move-to-requires
     store-requires
     same-length-2

@@ -7,7 +7,7 @@ use native.Mathlib.Omega.{arith}
 use lib.ListN.{length}
 use Rattle.graph.specs.Forest.{Labelled}
 use Rattle.window.specs.Window.{windowLinks}
-use Rattle.window.specs.LinkForest.{grownFrom}
+use Rattle.window_forest.specs.LinkForest.{grownFrom}
 use Rattle.window.proofs.Gathered.{put-many, put-read}
 use Rattle.window.proofs.WindowLinks.{window-few}
 use Rattle.window_groups.specs.Trees.{Roots}

@@ -1,11 +1,11 @@
--- `window::grow` meets its contract: the first i links are united (proofs/Growing.antt).
+-- `window_forest::grow` meets its contract: the first i links are united (proofs/Growing.antt).
 use Prim.Native.Nat.{_-_}
 use borrow.Author.Needs.{needs}
 use native.Mathlib.Omega.{arith}
 use Rattle.book_state.specs.Arrays.{arraysOf}
-use Rattle.window.proofs.Growing.{Growing, growing-none, growing-one, growing-all}
-use Rattle.window.proofs.grow.Statement.{statement}
-use Rattle.window.proofs.grow.Tie as tie
+use Rattle.window_forest.proofs.Growing.{Growing, growing-none, growing-one, growing-all}
+use Rattle.window_forest.proofs.grow.Statement.{statement}
+use Rattle.window_forest.proofs.grow.Tie as tie
 
 abbrev Inv-loop : tie.InvT-loop
 Inv-loop ones others labels count parent₀ size₀ label₀ i₀ parent size label i = Growing ones others labels count (arraysOf parent size label) i

@@ -13,9 +13,9 @@ use Rattle.graph.proofs.Chains.{chained-relink}
 use Rattle.forest.specs.Arrays.{parentIn, labelIn}
 use Rattle.book_state.specs.Arrays.{cells, stepLimit}
 use Rattle.book_state.proofs.Built.{each-reverse, Holds, holds-all}
 use Rattle.window.specs.Window.{linksFromLabel}
-use Rattle.window.specs.LinkForest.{grownArrays, grownFrom}
-use Rattle.window.specs.declared.LinkForest.{LinkForest}
+use Rattle.window_forest.specs.LinkForest.{grownArrays, grownFrom}
+use Rattle.window_forest.specs.declared.LinkForest.{LinkForest}
 
 -- ---- the order of links
 

@@ -10,8 +10,8 @@ use Rattle.forest.specs.Arrays.{freshParents, freshSizes, freshLabels}
 use Rattle.forest_unite.specs.United.{United}
 use Rattle.book_state.specs.Arrays.{cells, stepLimit, Arrays, arraysOf, united, unitedAll}
 use Rattle.book_state.proofs.Passes.{Parts, counted-parts, united-append}
 use Rattle.window.specs.Gathered.{arrayLink, arrayLinksAt, arrayLinks}
-use Rattle.window.specs.LinkForest.{grownArrays, grownFrom}
+use Rattle.window_forest.specs.LinkForest.{grownArrays, grownFrom}
 
 module _ (ones others labels : List ℕ) (count : ℕ) where
   -- the links from link i on
