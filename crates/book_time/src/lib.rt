@@ -49,7 +49,7 @@ pub fn move_to(
 {
     let before = slides::chunk(clock, slides::open_slide(clock));
     let after = slides::chunk(clock, slides::slide(clock, tick));
-    let moved = slides::advanced(clock, tick);
+    let moved = slides_step::advanced(clock, tick);
     if after == before {
         return moved;
     }

@@ -1,8 +1,7 @@
-// The clock's few numbers, and what follows from them: the slide of a tick, the chunk and the place of a slide, and the
-// step that moves time.
+// The clock's few numbers, and what follows from them: the slide of a tick, the chunk and the place of a slide.
 use settings::Settings;
 ghost use mathlib.Core.Path.{_≡_};
-ghost use Rattle.slides.specs.Clock.{notBefore, slideOf, ticksOf, openSlide, chunkOf, placeOf, started, movedTo, clockInRange};
+ghost use Rattle.slides.specs.Clock.{notBefore, slideOf, ticksOf, openSlide, chunkOf, placeOf, started, clockInRange};
 
 #[repr(C)]
 pub struct Clock {
@@ -138,31 +137,4 @@ pub fn place(clock: Clock, slide: u64) -> u8
         return 0;
     }
     (slide % n) as u8
-}
-
-// The clock after a tick, by value.
-pub fn moved(clock: Clock, tick: u32) -> Clock
-    ensures { λ r. ⌜ r ≡ movedTo clock tick ⌝ }
-{
-    let mut later = clock;
-    if not_before(clock, tick) {
-        later.time = tick;
-    }
-    later
-}
-
-// The clock's record, lent and altered there.
-pub fn advance(clock: &mut Clock, tick: u32)
-    ensures { λ _. ⌜ now (clock .exit) ≡ movedTo (now (clock .entry)) tick ⌝ }
-{
-    *clock = moved(*clock, tick);
-}
-
-// The same with plain parameters, for callers: the record is lent here alone.
-pub fn advanced(old: Clock, tick: u32) -> Clock
-    ensures { λ r. ⌜ r ≡ movedTo old tick ⌝ }
-{
-    let mut lent = old;
-    advance(&mut lent, tick);
-    lent
 }

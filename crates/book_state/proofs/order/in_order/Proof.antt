@@ -52,14 +52,14 @@ in-range-requires c κs = search needs
 
 returns : tie.Need-returns
 unfolding inOrderOf
-returns c = simp (sym (c .before .in-range .ensures) ∙ not-true _ (c .if1 .taken))
+returns c = rw (sym (c .before .in-range .ensures) ∙ not-true _ (c .if1 .taken))
 
 judge-requires : tie.Need-judge-requires
 judge-requires c κs = search needs
 
 returns-2 : tie.Need-returns-2
 unfolding inOrderOf
-returns-2 c = simp (timely (c .before .before), unheld c)
+returns-2 c = rw (timely (c .before .before), unheld c)
 
 all-within-requires : tie.Need-all-within-requires
 all-within-requires c κs = search needs
@@ -68,7 +68,7 @@ returns-3 : tie.Need-returns-3
 unfolding inOrderOf
 returns-3 c =
     let e = c .before .before in
-    simp (timely (e .before .before), held e, sym (c .before .all-within .ensures) ∙ not-true _ (c .if3 .taken))
+    rw (timely (e .before .before), held e, sym (c .before .all-within .ensures) ∙ not-true _ (c .if3 .taken))
 
 sound-requires : tie.Need-sound-requires
 sound-requires c κs = search needs
@@ -77,7 +77,7 @@ returns-4 : tie.Need-returns-4
 unfolding inOrderOf
 returns-4 c =
     let e = c .before .before in
-    simp (timely (e .before .before .before .before), held (e .before .before), few e, sym (c .before .sound .ensures) ∙ not-true _ (c .if4 .taken))
+    rw (timely (e .before .before .before .before), held (e .before .before), few e, sym (c .before .sound .ensures) ∙ not-true _ (c .if4 .taken))
 
 sound-requires-2 : tie.Need-sound-requires-2
 sound-requires-2 c κs = search needs
@@ -86,7 +86,7 @@ returns-5 : tie.Need-returns-5
 unfolding inOrderOf
 returns-5 c =
     let e = c .before .before in
-    simp (timely (e .before .before .before .before .before .before), held (e .before .before .before .before), few (e .before .before), forward e, sym (c .before .sound2 .ensures) ∙ not-true _ (c .if5 .taken))
+    rw (timely (e .before .before .before .before .before .before), held (e .before .before .before .before), few (e .before .before), forward e, sym (c .before .sound2 .ensures) ∙ not-true _ (c .if5 .taken))
 
 labels-within-requires : tie.Need-labels-within-requires
 labels-within-requires c κs = search needs
@@ -95,7 +95,7 @@ returns-6 : tie.Need-returns-6
 unfolding inOrderOf
 returns-6 c =
     let e = c .before .before .before in
-    simp (timely (e .before .before .before .before .before .before), held (e .before .before .before .before), few (e .before .before), forward e, backward (c .before), c .labels-within .ensures)
+    rw (timely (e .before .before .before .before .before .before), held (e .before .before .before .before), few (e .before .before), forward e, backward (c .before), c .labels-within .ensures)
 
 pub in-order-spec : {M : Type 1} → statement M
 in-order-spec =

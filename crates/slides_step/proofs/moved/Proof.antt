@@ -1,9 +1,9 @@
--- `slides::moved` meets its contract: either branch settles the definition's test.
+-- `slides_step::moved` meets its contract: either branch settles the definition's test.
 use borrow.Author.Needs.{needs}
 use mathlib.Core.Path.{sym, _∙_}
 use Rattle.slides.specs.Clock.{movedTo}
-use Rattle.slides.proofs.moved.Statement.{statement}
-use Rattle.slides.proofs.moved.Tie as tie
+use Rattle.slides_step.proofs.moved.Statement.{statement}
+use Rattle.slides_step.proofs.moved.Tie as tie
 
 not-before-requires : tie.Need-not-before-requires
 not-before-requires c κs = search needs

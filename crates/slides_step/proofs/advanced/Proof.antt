@@ -1,4 +1,4 @@
--- `slides::advanced` meets its contract: a walk of its MIR, by hand.
+-- `slides_step::advanced` meets its contract: a walk of its MIR, by hand.
 --
 --     _3 = _1;  _5 = &mut _3;  _4 = advance(_5, _2);  _0 = _3;  return
 --
@@ -42,18 +42,18 @@ use denote.Triple.Spec.{Meets, tripleOf}
 use denote.Triple.Table.{entered, cited}
 use denote.Triple.Walked.{says, Stays, stay-none, walkOf, AllGo, goes-none, Walks, ends-at, walked, walk-meets}
 use denote.Exit.{yes}
 use Rattle.slides.specs.declared.Clock.{Clock}
 use Rattle.slides.specs.Clock.{movedTo}
 use Rattle.slides.proofs.Clock as T
 use Rattle.slides.proofs.Clock.Laws as T′
-use Rattle.slides.proofs.advance as advance
-use Rattle.slides.proofs.advance.Symbol as advance-def
-use Rattle.slides.proofs.advance.Symbol.{name as #slides·advance}
-use Rattle.slides.proofs.advance.Met as advance-thm
-use Rattle.slides.proofs.advanced.Key.{name as #slides·advanced}
-use Rattle.slides.proofs.advanced as f
-use Rattle.slides.proofs.advanced.Statement as stated
-use Rattle.slides.proofs.advanced.Code as code
+use Rattle.slides_step.proofs.advance as advance
+use Rattle.slides_step.proofs.advance.Symbol as advance-def
+use Rattle.slides_step.proofs.advance.Symbol.{name as #slides_step·advance}
+use Rattle.slides_step.proofs.advance.Met as advance-thm
+use Rattle.slides_step.proofs.advanced.Key.{name as #slides_step·advanced}
+use Rattle.slides_step.proofs.advanced as f
+use Rattle.slides_step.proofs.advanced.Statement as stated
+use Rattle.slides_step.proofs.advanced.Code as code
 
 abbrev stayed : Stays (f.ended .signature .params) (f.ended .kept)
 stayed = (stay-none (λ _. T.the-row) yes, (stay-none (λ _. u32) yes, tt))
@@ -114,7 +114,7 @@ module _ {M : Type 1} (𝓤 : URA M) (H : Heap 𝓤) (A : Atoms 𝓤) (W : Given
       qed W (‵ (flft (ν ∷ []) fullShare) ∷ ‵ (MutRef (named 0) (ν ∷ []) T.the-row .own (lent l δ) (vptr l 0 ∷ [])) ∷ []) ∵ nothing ! $
       owned ! u32 (Is u32) (uint-makes 𝓤 H A W w32) tick _ (refl, fits) $ fjoin ! $ move ! (2 ∷ 0 ∷ []) $ fjoin ! $ nothing ! $ move ! (2 ∷ 0 ∷ []) $ join ! $ join ! $ frame ! $ done !
 
-  module _ (C : Calls 𝓤 H) (Λ : Loops 𝓤 H) (fm : FmC 𝓤 H (W .laws) C) (known : Triple 𝓤 (C #slides·advance) (Advance 𝓤 H A at-mem run)) where
+  module _ (C : Calls 𝓤 H) (Λ : Loops 𝓤 H) (fm : FmC 𝓤 H (W .laws) C) (known : Triple 𝓤 (C #slides_step·advance) (Advance 𝓤 H A at-mem run)) where
     walk : ent 𝓤 (onEntry 𝓤 H A f.signature tt tt x at) (WpFn 𝓤 H C Λ code.function (val old ∷ vint w32 tick ∷ []) Post)
     walk =
         qed W (‵ ftrue ∷ ‵ (owns (T.the-row ∷ u32 ∷ []) x at) ∷ []) ∵
@@ -156,7 +156,7 @@ module _ {M : Type 1} (𝓤 : URA M) (H : Heap 𝓤) (A : Atoms 𝓤) (W : Given
         keep ! (0 ∷ []) $ by ! (exits (zs .0) e)))))))))))))))
 
 module _ {M : Type 1} (𝓤 : URA M) (H : Heap 𝓤) (A : Atoms 𝓤) (W : Given 𝓤 H A) (mem : Memory → SProp 𝓤) (run : Routine → Fun 𝓤) where
-  advanced-walks : (C : Calls 𝓤 H) (Λ : Loops 𝓤 H) → FmC 𝓤 H (W .laws) C → Triple 𝓤 (C #slides·advance) (Advance 𝓤 H A mem run)
+  advanced-walks : (C : Calls 𝓤 H) (Λ : Loops 𝓤 H) → FmC 𝓤 H (W .laws) C → Triple 𝓤 (C #slides_step·advance) (Advance 𝓤 H A mem run)
       → Walks 𝓤 H A f.ended stayed (WpFn 𝓤 H C Λ code.function) (f.clauses 𝓤 H A mem run)
   advanced-walks C Λ fm known =
       walked 𝓤 H A f.ended stayed (f.clauses 𝓤 H A mem run) (WpFn 𝓤 H C Λ code.function)
@@ -167,7 +167,7 @@ module _ {M : Type 1} (𝓤 : URA M) (H : Heap 𝓤) (A : Atoms 𝓤) (W : Given
   goes-all = (goes-none 𝓤 H A W 0 (λ _. T.the-row) yes (λ κs x f. refl), (goes-none 𝓤 H A W 0 (λ _. u32) yes (λ κs x f. refl), tt))
 
 advanced-meets : {M : Type 1} (𝓤 : URA M) (H : Heap 𝓤) (A : Atoms 𝓤) → Given 𝓤 H A → (mem : Memory → SProp 𝓤) (run : Routine → Fun 𝓤) (𝓣 : Tables 𝓤 H)
-    → Triple 𝓤 (𝓣 .C #slides·advance) (Advance 𝓤 H A mem run) → Meets 𝓤 H A f.signature (WpFn 𝓤 H (𝓣 .C) (𝓣 .Λ) code.function) (f.spec 𝓤 H A mem run)
+    → Triple 𝓤 (𝓣 .C #slides_step·advance) (Advance 𝓤 H A mem run) → Meets 𝓤 H A f.signature (WpFn 𝓤 H (𝓣 .C) (𝓣 .Λ) code.function) (f.spec 𝓤 H A mem run)
 advanced-meets 𝓤 H A W mem run 𝓣 known =
     walk-meets 𝓤 H A f.ended stayed W (goes-all 𝓤 H A W mem run) (f.clauses 𝓤 H A mem run) (WpFn 𝓤 H (𝓣 .C) (𝓣 .Λ) code.function)
     (WpFn-mono 𝓤 H (W .laws) 𝓣 code.function) (advanced-walks 𝓤 H A W mem run (𝓣 .C) (𝓣 .Λ) (fmOf 𝓤 H (W .laws) 𝓣) known)
@@ -176,6 +176,6 @@ pub advanced-spec : {M : Type 1} → stated.statement M
 unfolding code.routine tablesOf
 advanced-spec 𝓤 H 𝓜 𝓖 𝓡 =
     entered 𝓤 H (tripleOf 𝓤 H (𝓖 .A) f.signature (f.spec 𝓤 H (𝓖 .A) (𝓜 .mem) (𝓡 .run)))
-    (tables 𝓤 H 𝓜 𝓡 code.env .C) (tables 𝓤 H 𝓜 𝓡 code.env .Λ) #slides·advanced code.function (code.unfolded 𝓤 H 𝓜 𝓡)
+    (tables 𝓤 H 𝓜 𝓡 code.env .C) (tables 𝓤 H 𝓜 𝓡 code.env .Λ) #slides_step·advanced code.function (code.unfolded 𝓤 H 𝓜 𝓡)
     (advanced-meets 𝓤 H (𝓖 .A) (givenOf 𝓤 H 𝓜 𝓖) (𝓜 .mem) (𝓡 .run) (tablesOf 𝓤 H 𝓜 (tables 𝓤 H 𝓜 𝓡 code.env))
-    (cited 𝓤 H (Advance 𝓤 H (𝓖 .A) (𝓜 .mem) (𝓡 .run)) 𝓜 𝓡 code.env #slides·advance advance-def.routine code.calls-slides·advance (advance-thm.met 𝓤 H 𝓜 𝓖 𝓡)))
+    (cited 𝓤 H (Advance 𝓤 H (𝓖 .A) (𝓜 .mem) (𝓡 .run)) 𝓜 𝓡 code.env #slides_step·advance advance-def.routine code.calls-slides-step·advance (advance-thm.met 𝓤 H 𝓜 𝓖 𝓡)))
