@@ -866,14 +866,14 @@ SPECS = {
         crate='kerb_slides', fn='kerb_slide_ticks', struct=BOOK, ref='shr', callee=('slides', 'ticks'), params=[('num', 'slide', 'u64')], args=[('load', 'clock'), ('num', 'slide')], lifetimes=[],
         answer=('struct', SLIDE_TICKS), uses=['use Rattle.slides.specs.Clock.{ticksOf}'], ensured='r ≡ ticksOf (h .clock) slide', says='e'),
     'kerb_link': dict(
-        crate='kerb_link', fn='kerb_link', struct=BOOK, ref='mut', callee=('book_link', 'link'),
+        crate='kerb_time', fn='kerb_link', struct=BOOK, ref='mut', callee=('book_link', 'link'),
         params=[('slice-mut', 'log', 'u16'), ('num', 'tick', 'u32'), ('num', 'one', 'u16'), ('num', 'other', 'u16')],
         args=FIELDS + [('slice', 'log'), ('num', 'tick'), ('num', 'one'), ('num', 'other')], lifetimes=EACH + [('param', 'log')],
         answer=('struct', FIELDS_ANSWER), stores=[('clock', 'clock'), ('fitting', 'fitting')], returns='number',
         uses=['use Rattle.book.specs.Calls.{GivesFields, linkOf}'],
         ensured=f'GivesFields (linkOf h l-log tick one other) r {ZS} z-log', says='e'),
     'kerb_clock': dict(
-        crate='kerb_clock', fn='kerb_clock', struct=BOOK, ref='mut', callee=('book', 'fields.clock'),
+        crate='kerb_time', fn='kerb_clock', struct=BOOK, ref='mut', callee=('book', 'fields.clock'),
         params=[('slice-shr', 'log', 'u16'), ('num', 'tick', 'u32')],
         args=FIELDS + [('slice', 'log'), ('num', 'tick')], lifetimes=EACH + [('param', 'log')],
         answer=('struct', FIELDS_ANSWER), stores=[('clock', 'clock'), ('fitting', 'fitting')], returns='number',

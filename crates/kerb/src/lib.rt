@@ -1,7 +1,8 @@
 // The interface for C and Rust: each call of the library under a plain name, over `#[repr(C)]` structs, a slice as a pointer and
 // then a length. Every call promises what its definition says, for every input. Here are the small ones that every caller needs: cell
-// numbers, one record's bytes, and what a caller's header must agree with. Each call over a book has a crate of its own, `kerb_` and
-// the call's name; those over whole link files are in `kerb_file`. The archive libkerb.a is made of them all.
+// numbers, one record's bytes, and what a caller's header must agree with. The calls over a book have crates of their own: opening
+// and play, link and clock (`kerb_time`), joined, chain, groups, slides; those over whole link files are in `kerb_file`. The archive
+// libkerb.a is made of them all.
 use book_state::Book;
 use cells::Fitting;
 use file_record::RecordAnswer;

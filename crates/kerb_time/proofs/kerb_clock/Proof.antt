@@ -1,4 +1,4 @@
--- `kerb_clock::kerb_clock` meets its contract: a walk of its MIR, by hand. The borrow is opened and the struct is taken apart into its fields; 2 of them are loaded, 6 are lent to `book::fields::clock` where they stand and come back at the last values that it ensures, 2 are stored to; the struct is put together, and the borrow is closed at it.
+-- `kerb_time::kerb_clock` meets its contract: a walk of its MIR, by hand. The borrow is opened and the struct is taken apart into its fields; 2 of them are loaded, 6 are lent to `book::fields::clock` where they stand and come back at the last values that it ensures, 2 are stored to; the struct is put together, and the borrow is closed at it.
 -- All that the proof knows of `book::fields::clock` is that it meets its contract.
 -- Written by tools/walk.py.
 use mathlib.Core.Path.{_≡_, refl, sym, ap}
@@ -62,10 +62,10 @@ use Rattle.book.proofs.fields.clock as g
 use Rattle.book.proofs.fields.clock.Symbol as g-def
 use Rattle.book.proofs.fields.clock.Symbol.{name as #book·fields·clock}
 use Rattle.book.proofs.fields.clock.Met as g-thm
-use Rattle.kerb_clock.proofs.kerb_clock.Key.{name as #kerb_clock·kerb-clock}
-use Rattle.kerb_clock.proofs.kerb_clock as f
-use Rattle.kerb_clock.proofs.kerb_clock.Statement as stated
-use Rattle.kerb_clock.proofs.kerb_clock.Code as code
+use Rattle.kerb_time.proofs.kerb_clock.Key.{name as #kerb_time·kerb-clock}
+use Rattle.kerb_time.proofs.kerb_clock as f
+use Rattle.kerb_time.proofs.kerb_clock.Statement as stated
+use Rattle.kerb_time.proofs.kerb_clock.Code as code
 
 abbrev stayed : Stays (f.ended .signature .params) (f.ended .kept)
 stayed = (stay-ref (0 ∷ []) tt (plain (λ _. T.the-row)), (stay-none-slice (1 ∷ []) tt (plain (λ _. u16)) yes, (stay-none (λ _. u32) yes, tt)))
@@ -229,6 +229,6 @@ pub kerb-clock-spec : {M : Type 1} → stated.statement M
 unfolding code.routine tablesOf
 kerb-clock-spec 𝓤 H 𝓜 𝓖 𝓡 =
     entered 𝓤 H (tripleOf 𝓤 H (𝓖 .A) f.signature (f.spec 𝓤 H (𝓖 .A) (𝓜 .mem) (𝓡 .run)))
-    (tables 𝓤 H 𝓜 𝓡 code.env .C) (tables 𝓤 H 𝓜 𝓡 code.env .Λ) #kerb_clock·kerb-clock code.function (code.unfolded 𝓤 H 𝓜 𝓡)
+    (tables 𝓤 H 𝓜 𝓡 code.env .C) (tables 𝓤 H 𝓜 𝓡 code.env .Λ) #kerb_time·kerb-clock code.function (code.unfolded 𝓤 H 𝓜 𝓡)
     (kerb-clock-meets 𝓤 H (𝓖 .A) (givenOf 𝓤 H 𝓜 𝓖) (𝓜 .mem) (𝓡 .run) (tablesOf 𝓤 H 𝓜 (tables 𝓤 H 𝓜 𝓡 code.env))
     (cited 𝓤 H (Callee 𝓤 H (𝓖 .A) (𝓜 .mem) (𝓡 .run)) 𝓜 𝓡 code.env #book·fields·clock g-def.routine code.calls-book·fields·clock (g-thm.met 𝓤 H 𝓜 𝓖 𝓡)))
