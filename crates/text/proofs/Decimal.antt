@@ -30,6 +30,10 @@ pub decimal-more : (x : ℕ) → 10 ≤ x → decimal x ≡ decimal (x / 10) ++ 
 unfolding decimal digits
 decimal-more x h = rw (le-ltb x 10 h, digits-enough x (suc (x / 10)) (x / 10) (omega arith) (omega arith))
 
+-- a value of two or more digits is one longer than a tenth of it
+pub one-longer : (x : ℕ) → 10 ≤ x → length (decimal x) ≡ length (decimal (x / 10)) + 1
+one-longer x h = ap length (decimal-more x h) ∙ length-append (decimal (x / 10)) (lastDigit x ∷ [])
+
 pub decimal-short : (d x : ℕ) → x < 10 ^ suc d → length (decimal x) ≤ suc d
 decimal-short zero x h = rw (decimal-one x h) (omega arith)
 decimal-short (suc d) x h = elim (decLt x 10) [

@@ -1,5 +1,6 @@
 // Text into a lent output: words, values in decimal, and lines of them. Each function writes from the place `at` and gives the
 // place after its last byte, so that what is written one after the other is one text.
+ghost use mathlib.Core.Path.{_≡_};
 ghost use Prim.Native.Nat.{_+_, _<_, _≤_};
 ghost use mathlib.Core.List.{[], _∷_, _++_};
 ghost use lib.ListN.{length};
@@ -21,8 +22,21 @@ pub fn put_word(word: &[u8], out: &mut [u8], at: usize) -> usize
     at + bytes::copy(word, &mut out[at..])
 }
 
+// How many digits a value has in decimal.
+pub fn decimal_length(x: u64) -> usize
+    ensures { λ r. ⌜ r ≡ length (decimal x) ⌝ }
+{
+    let mut rest = x;
+    let mut digits: usize = 1;
+    while 10 <= rest {
+        rest = rest / 10;
+        digits += 1;
+    }
+    digits
+}
+
 // A value in decimal: the digits before the last are those of a tenth of it.
-fn put_decimal(x: u64, out: &mut [u8], at: usize) -> usize
+pub fn put_decimal(x: u64, out: &mut [u8], at: usize) -> usize
     requires { ⌜ at + length (decimal x) ≤ length (now out) ⌝ }
     ensures { λ r. ⌜ WrittenAt (decimal x) at (now (out .entry)) r (now (out .exit)) ⌝ }
 {

@@ -1,14 +1,12 @@
 -- `text::put_decimal` meets its contract, with the value as the measure: below 10 it is its one digit, and else its
 -- last digit comes after a tenth of it in decimal.
-use Prim.Native.Nat.{ℕ, _+_, _/_, _≤_, _<_}
-use mathlib.Core.Path.{_≡_, ap, _∙_}
-use mathlib.Core.List.{_∷_, []}
+use Prim.Native.Nat.{ℕ, _<_}
+use mathlib.Core.Path.{ap, _∙_}
 use native.Mathlib.Omega.{arith}
-use lib.ListN.{length, length-append}
+use lib.ListN.{length}
 use borrow.Fn.Kinds.{In}
 use borrow.Fn.PlainCycle.{Measures, is, falls, and}
-use Rattle.text.specs.Text.{lastDigit, decimal}
-use Rattle.text.proofs.Decimal.{decimal-one, decimal-more}
+use Rattle.text.proofs.Decimal.{decimal-one, decimal-more, one-longer}
 use Rattle.text.proofs.Writing.{written-then}
 use Rattle.text.proofs.put_decimal.Reads as put-decimal
 use Rattle.text.proofs.put_decimal.Kinds as put-decimal-kinds
@@ -25,10 +23,6 @@ given t = and 1 put-decimal-kinds.ps (is 1 put-decimal-kinds.ps measure t) put-d
 
 abbrev below : ℕ → In 1 put-decimal-kinds.ps
 below t = and 1 put-decimal-kinds.ps (falls 1 put-decimal-kinds.ps _<_ measure t) put-decimal.Pre
-
--- a value of two or more digits is one longer than a tenth of it
-one-longer : (x : ℕ) → 10 ≤ x → length (decimal x) ≡ length (decimal (x / 10)) + 1
-one-longer x h = ap length (decimal-more x h) ∙ length-append (decimal (x / 10)) (lastDigit x ∷ [])
 
 module _ (t : ℕ) where
   add-last : lts.Need-add-last (put-byte.Asked, put-byte.Learnt, below t, put-decimal.Post) (given t) put-decimal.Post

@@ -1,0 +1,4 @@
+pub mod Call
+pub mod Promises
+pub mod Reading
+pub mod Text
