@@ -1,4 +1,6 @@
+pub mod Calls
 pub mod Lines
 pub mod Numbers
 pub mod Records
+pub mod Split
 pub mod Texts
