@@ -27,6 +27,7 @@ use Rattle.book_state.specs.Numbers.{logPlaces, areCells}
 use Rattle.file.specs.Layout.{AreBytes, FitsFields, endingSize, recordCount}
 use Rattle.file.specs.Format.{readNumber, readOf}
 use Rattle.file_write.specs.Writer.{writeNumber, outputOf}
+use Rattle.text_list.specs.Promises.{Texts}
 use Rattle.file_play.specs.Play.{Play, playFrom, playOf, recordGives}
 use Rattle.file_record.specs.Record.{packNumber, packedOf, recordOf}
 use Rattle.listing.specs.Listing.{listingOf}
@@ -151,7 +152,8 @@ pub record Joined (p : Implementation) : Type 0 where
   pub ends : AfterCalls p λ s h. (c : ℕ) → WalksEnd h c
 
 -- 2, for files: what the writer wrote the reader reads back, records and all; what the reader takes, written again, has the same bytes
--- (RULES 6.5). Settings have fields of 32 bits, and a file is of bytes
+-- (RULES 6.5). Settings have fields of 32 bits, and a file is of bytes. And text lists: which are taken, where one breaks the form, and
+-- the ways from text to file and back (RULES 6.11 to 6.15)
 pub record Files : Type 0 where
   pub there : (s : Settings) (records out : Bytes) → FitsFields s → writeNumber s (length records) (length out) ≡ 0 →
       let m : ℕ = recordCount (length records) in
@@ -160,6 +162,7 @@ pub record Files : Type 0 where
   pub back : (file out : Bytes) → AreBytes file → readOf file .number ≡ 0 → length file ≤ length out →
       let records : Bytes = take (8 * readOf file .m) file in
       (writeNumber (readOf file .settings) (length records) (length out) ≡ 0) × (outputOf (readOf file .settings) records out ≡ atFront file out)
+  pub texts : Texts
 
 -- what a chain call that gives 0 hands back: at the front of the buffer a chain from the first cell to the second over links of
 -- slides L to k (RULES 5.2), with the fewest links, and among those the first by cell numbers (RULES 5.3); later places keep what

@@ -19,6 +19,8 @@ use Rattle.pledges.specs.Calls.{
   readCall,
   writeCall,
   listCall,
+  textInCall,
+  textOutCall,
   packCall,
   unpackCall,
   lorryCellCall,
@@ -62,6 +64,10 @@ pledges =
       kerb-read = one-claim readCall _ (λ w κs a. refl) (λ κs a. refl) (λ κs a r p i. p i ▸ tt ▸ tt);
       kerb-write = two-claims writeCall _ (λ w κs a. refl) (λ κs a. (refl, refl)) (λ κs a r p q i. p i ▸ tt ▸ tt ▸ q i ▸ tt);
       kerb-list = one-claim listCall _ (λ w κs a. refl) (λ κs a. record { answered = refl; written = refl })
+          (λ κs a r p i. p .answered i ▸ tt ▸ p .written i ▸ tt);
+      kerb-text-in = one-claim textInCall _ (λ w κs a. refl) (λ κs a. record { answered = refl; written = refl })
+          (λ κs a r p i. p .answered i ▸ tt ▸ tt ▸ p .written i ▸ tt);
+      kerb-text-out = one-claim textOutCall _ (λ w κs a. refl) (λ κs a. record { answered = refl; written = refl })
           (λ κs a r p i. p .answered i ▸ tt ▸ p .written i ▸ tt);
       kerb-pack = two-claims packCall _ (λ w κs a. refl) (λ κs a. (refl, refl)) (λ κs a r p q i. p i ▸ tt ▸ tt ▸ tt ▸ q i ▸ tt);
       kerb-unpack = one-claim unpackCall _ (λ w κs a. refl) (λ κs a. refl) (λ κs a r p i. p i ▸ tt ▸ tt ▸ tt);

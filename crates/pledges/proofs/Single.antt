@@ -25,10 +25,13 @@ use Rattle.pledges.specs.Single.{
   playOverFn,
   playFileFn,
   groupsOverFn,
+  putDecimalFn,
   putWordFn,
   putFieldsFn,
   putLineFn,
   listFn,
+  textInFn,
+  textOutFn,
   uniteFn,
   listEntriesFn,
   joinedAcrossFn,
@@ -87,6 +90,8 @@ single =
       groups-over-fields = single-claim groupsOverFn (λ w κs a g r e. refl) λ κs a r s p q i.
           equal (p .answered) (q .answered) i ▸ tt ▸ tt ▸ tt ▸ tt ▸ tt ▸ tt ▸ tt ▸ tt ▸ tt ▸ equal (p .firsts) (q .firsts) i
           ▸ equal (p .sizes) (q .sizes) i ▸ equal (p .holds) (q .holds) i ▸ tt;
+      text-put-decimal = single-claim putDecimalFn (λ w κs a g r e. refl) λ κs a r s p q i.
+          equal (p .until) (q .until) i ▸ tt ▸ equal (p .bytes) (q .bytes) i ▸ tt ▸ tt;
       text-put-word = single-claim putWordFn (λ w κs a g r e. refl) λ κs a r s p q i.
           equal (p .until) (q .until) i ▸ tt ▸ equal (p .bytes) (q .bytes) i ▸ tt ▸ tt;
       text-put-fields = single-claim putFieldsFn (λ w κs a g r e. refl) λ κs a r s p q i.
@@ -94,6 +99,10 @@ single =
       text-put-line = single-claim putLineFn (λ w κs a g r e. refl) λ κs a r s p q i.
           equal (p .until) (q .until) i ▸ tt ▸ tt ▸ equal (p .bytes) (q .bytes) i ▸ tt ▸ tt;
       listing-list = single-claim listFn (λ w κs a g r e. refl) λ κs a r s p q i.
+          equal (p .answered) (q .answered) i ▸ tt ▸ equal (p .written) (q .written) i ▸ tt;
+      text-in-text-in = single-claim textInFn (λ w κs a g r e. refl) λ κs a r s p q i.
+          equal (p .answered) (q .answered) i ▸ tt ▸ tt ▸ equal (p .written) (q .written) i ▸ tt;
+      text-out-text-out = single-claim textOutFn (λ w κs a g r e. refl) λ κs a r s p q i.
           equal (p .answered) (q .answered) i ▸ tt ▸ equal (p .written) (q .written) i ▸ tt;
       forest-unite-unite = single-claim uniteFn (λ w κs a g r e. refl) λ κs a r s p q i.
           tt ▸ equal (p .parents) (q .parents) i ▸ equal (p .sizes) (q .sizes) i ▸ equal (p .labels) (q .labels) i ▸ tt ▸ tt ▸ tt ▸ tt ▸ tt;

@@ -20,6 +20,8 @@ use Rattle.kerb_opening.proofs.kerb_opening
 use Rattle.kerb_play.proofs.kerb_play
 use Rattle.kerb_slides.proofs.kerb_open_slide
 use Rattle.kerb_slides.proofs.kerb_slide_ticks
+use Rattle.kerb_text.proofs.kerb_text_in
+use Rattle.kerb_text.proofs.kerb_text_out
 use Rattle.kerb_time.proofs.kerb_clock
 use Rattle.kerb_time.proofs.kerb_link
 use Rattle.pledges.specs.Exported.{Exported}
@@ -62,6 +64,12 @@ writeCall = record { ended = kerb_write.ended; clauses = λ M. kerb_write.clause
 
 abbrev pub listCall : Exported
 listCall = record { ended = kerb_list.ended; clauses = λ M. kerb_list.clauses; routine = kerb_list.Symbol.routine }
+
+abbrev pub textInCall : Exported
+textInCall = record { ended = kerb_text_in.ended; clauses = λ M. kerb_text_in.clauses; routine = kerb_text_in.Symbol.routine }
+
+abbrev pub textOutCall : Exported
+textOutCall = record { ended = kerb_text_out.ended; clauses = λ M. kerb_text_out.clauses; routine = kerb_text_out.Symbol.routine }
 
 abbrev pub packCall : Exported
 packCall = record { ended = kerb_pack.ended; clauses = λ M. kerb_pack.clauses; routine = kerb_pack.Symbol.routine }

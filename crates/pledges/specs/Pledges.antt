@@ -14,6 +14,7 @@ use Rattle.file_record.specs.Record.{packNumber, packedOf, recordOf}
 use Rattle.file_write.specs.Writer.{writeNumber, outputOf}
 use Rattle.listing.specs.Listing.{Listing, listingOf}
 use Rattle.groups.specs.Call.{GroupsOutcome, groupsGiven}
+use Rattle.text_list.specs.Call.{TextIn, textInOf, TextOut, textOutOf}
 use Rattle.kerb.specs.Interface.{version, bookSize}
 use Rattle.pledges.specs.Exported.{Exported, Definition, Pledged}
 use Rattle.pledges.specs.Calls.{
@@ -30,6 +31,8 @@ use Rattle.pledges.specs.Calls.{
   readCall,
   writeCall,
   listCall,
+  textInCall,
+  textOutCall,
   packCall,
   unpackCall,
   lorryCellCall,
@@ -95,6 +98,12 @@ pub record EachCall (Holds : (f : Exported) → Definition f → Type 2) : Type 
   pub kerb-list : Holds listCall λ κs a. with2 a λ file out.
       let l : Listing = listingOf (now file) (now out) in
       l .answer ▸ kept ▸ l .output ▸ tt
+  pub kerb-text-in : Holds textInCall λ κs a. with3 a λ s text out.
+      let t : TextIn = textInOf s (now text) (now out) in
+      t .answer ▸ kept ▸ kept ▸ t .output ▸ tt
+  pub kerb-text-out : Holds textOutCall λ κs a. with2 a λ file out.
+      let t : TextOut = textOutOf (now file) (now out) in
+      t .answer ▸ kept ▸ t .output ▸ tt
   pub kerb-pack : Holds packCall λ κs a. with4 a λ tick one other out.
       packNumber (length (now out)) ▸ kept ▸ kept ▸ kept ▸ packedOf tick one other (now out) ▸ tt
   pub kerb-unpack : Holds unpackCall λ κs a. with2 a λ records i. recordOf (now records) i ▸ kept ▸ kept ▸ tt

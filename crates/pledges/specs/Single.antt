@@ -14,10 +14,13 @@ use Rattle.chain.proofs.over_fields as chain_over
 use Rattle.file_play.proofs.over_fields as play_over
 use Rattle.file_play.proofs.play_file
 use Rattle.groups.proofs.over_fields as groups_over
+use Rattle.text.proofs.put_decimal
 use Rattle.text.proofs.put_word
 use Rattle.text.proofs.put_fields
 use Rattle.text.proofs.put_line
 use Rattle.listing.proofs.list as listing_list
+use Rattle.text_in.proofs.text_in
+use Rattle.text_out.proofs.text_out
 use Rattle.forest_unite.proofs.unite
 use Rattle.buckets.proofs.list_entries
 use Rattle.forest_cross.proofs.joined_across
@@ -62,6 +65,9 @@ playFileFn = record { ended = play_file.ended; clauses = λ M. play_file.clauses
 abbrev pub groupsOverFn : Exported
 groupsOverFn = record { ended = groups_over.ended; clauses = λ M. groups_over.clauses; routine = groups_over.Symbol.routine }
 
+abbrev pub putDecimalFn : Exported
+putDecimalFn = record { ended = put_decimal.ended; clauses = λ M. put_decimal.clauses; routine = put_decimal.Symbol.routine }
+
 abbrev pub putWordFn : Exported
 putWordFn = record { ended = put_word.ended; clauses = λ M. put_word.clauses; routine = put_word.Symbol.routine }
 
@@ -73,6 +79,12 @@ putLineFn = record { ended = put_line.ended; clauses = λ M. put_line.clauses; r
 
 abbrev pub listFn : Exported
 listFn = record { ended = listing_list.ended; clauses = λ M. listing_list.clauses; routine = listing_list.Symbol.routine }
+
+abbrev pub textInFn : Exported
+textInFn = record { ended = text_in.ended; clauses = λ M. text_in.clauses; routine = text_in.Symbol.routine }
+
+abbrev pub textOutFn : Exported
+textOutFn = record { ended = text_out.ended; clauses = λ M. text_out.clauses; routine = text_out.Symbol.routine }
 
 abbrev pub uniteFn : Exported
 uniteFn = record { ended = unite.ended; clauses = λ M. unite.clauses; routine = unite.Symbol.routine }
@@ -97,10 +109,13 @@ pub record Single : Type 2 where
   pub file-play-over-fields : SingleResult playOverFn
   pub file-play-play-file : SingleResult playFileFn
   pub groups-over-fields : SingleResult groupsOverFn
+  pub text-put-decimal : SingleResult putDecimalFn
   pub text-put-word : SingleResult putWordFn
   pub text-put-fields : SingleResult putFieldsFn
   pub text-put-line : SingleResult putLineFn
   pub listing-list : SingleResult listFn
+  pub text-in-text-in : SingleResult textInFn
+  pub text-out-text-out : SingleResult textOutFn
   pub forest-unite-unite : SingleResult uniteFn
   pub buckets-list-entries : SingleResult listEntriesFn
   pub forest-cross-joined-across : SingleResult joinedAcrossFn

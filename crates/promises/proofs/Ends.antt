@@ -21,6 +21,8 @@ use Rattle.kerb_opening.proofs.kerb_opening
 use Rattle.kerb_play.proofs.kerb_play
 use Rattle.kerb_slides.proofs.kerb_open_slide
 use Rattle.kerb_slides.proofs.kerb_slide_ticks
+use Rattle.kerb_text.proofs.kerb_text_in
+use Rattle.kerb_text.proofs.kerb_text_out
 use Rattle.kerb_time.proofs.kerb_clock
 use Rattle.kerb_time.proofs.kerb_link
 use Rattle.pledges.specs.Exported.{Exported, Lifetimes, Given, Claim, Definition, Met, Pledged, CodeMeets}
@@ -47,6 +49,8 @@ code-ends =
       kerb-read = ends (λ M. kerb_read.Met.met) (pledges .kerb-read);
       kerb-write = ends (λ M. kerb_write.Met.met) (pledges .kerb-write);
       kerb-list = ends (λ M. kerb_list.Met.met) (pledges .kerb-list);
+      kerb-text-in = ends (λ M. kerb_text_in.Met.met) (pledges .kerb-text-in);
+      kerb-text-out = ends (λ M. kerb_text_out.Met.met) (pledges .kerb-text-out);
       kerb-pack = ends (λ M. kerb_pack.Met.met) (pledges .kerb-pack);
       kerb-unpack = ends (λ M. kerb_unpack.Met.met) (pledges .kerb-unpack);
       kerb-lorry-cell = ends (λ M. kerb_lorry_cell.Met.met) (pledges .kerb-lorry-cell);

@@ -10,6 +10,7 @@ use Rattle.demands.proofs.Table.{table}
 use Rattle.demands_cases.specs.Cases.{cases}
 use Rattle.demands_listing.proofs.Listed.{listed}
 use Rattle.pledges.proofs.Single.{single}
+use Rattle.text_list.proofs.Texts.{texts}
 use Rattle.promises.specs.Promise.{Kept}
 use Rattle.promises.proofs.Ends.{code-ends}
 use Rattle.promises.proofs.Routines.{code-refuses, code-table, code-joined, code-files, code-chain, code-listing}
@@ -29,7 +30,7 @@ kept =
           record {
             joined = joined;
             code-joined = code-joined;
-            files = record { there = written-then-read; back = read-then-written };
+            files = record { there = written-then-read; back = read-then-written; texts = texts };
             code-files = code-files;
           };
       demand-3 = record { chain = chain; code-chain = code-chain };

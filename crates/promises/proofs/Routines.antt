@@ -15,6 +15,8 @@ use Rattle.file_play.specs.Play.{Play}
 use Rattle.file_play.specs.declared.PlayAnswer.{PlayAnswer}
 use Rattle.file_write.proofs.Files.{written-then-read, read-then-written}
 use Rattle.listing.specs.Listing.{listedIf, listingOf}
+use Rattle.text_list.proofs.Calls.{in-number, out-number}
+use Rattle.text_list.proofs.Texts.{texts}
 use Rattle.demands.specs.History.{opening, link, clock, History}
 use Rattle.demands.specs.Implementation.{gives}
 use Rattle.demands.specs.Agrees.{Agrees}
@@ -63,6 +65,11 @@ code-refuses =
       kerb-write = demanded (code-ends .kerb-write) λ κs a. (refl, files-refused .write _ _ _);
       kerb-list = demanded (code-ends .kerb-list) λ κs a.
           (list-gives _ _ _, λ n. let e = files-refused .list _ _ n in (ap (λ o. o .answer) e, ap (λ o. o .output) e));
+      kerb-text-in = demanded (code-ends .kerb-text-in) λ κs a. (in-number _ _ _, texts .in-refused _ _ _);
+      kerb-text-out = demanded (code-ends .kerb-text-out) λ κs a. (
+        out-number _ _,
+        λ n. let e = texts .out-refused _ _ n in (ap (λ t. t .answer) e, ap (λ t. t .output) e),
+      );
       kerb-pack = demanded (code-ends .kerb-pack) λ κs a. (refl, files-refused .pack _ _ _ _);
       kerb-unpack = demanded (code-ends .kerb-unpack) λ κs a. (unpack-gives _ _ _, files-refused .unpack (now (a .0)) (a .1 .0));
       kerb-play = demanded (code-ends .kerb-play) λ κs a. (
@@ -92,6 +99,18 @@ code-files =
       kerb-read = demanded (code-ends .kerb-read) λ κs a s records out fits e same. ap readOf same ∙ written-then-read s records out fits e .0;
       kerb-write = demanded (code-ends .kerb-write) λ κs a file bytes e room s-is records-are.
           rw (s-is, records-are) (read-then-written file (now (a .1 .1 .0)) bytes e room);
+      kerb-text-in = demanded (code-ends .kerb-text-in) λ κs a. let out = now (a .1 .1 .0) in
+          record {
+            taken = texts .taken _ _ out;
+            written = λ rs is. texts .written _ rs _ out is;
+            breaks = texts .breaks _ _ out;
+            again = λ file before bytes e room s-is text-is.
+                let given = texts .back file before out bytes e room in
+                rw (s-is, text-is) (ap (λ t. t .answer) given, ap (λ t. t .output) given);
+          };
+      kerb-text-out = demanded (code-ends .kerb-text-out) λ κs a s text before fits e room file-is.
+          let given = texts .there s text before (now (a .1 .0)) fits e room in
+          rw file-is (ap (λ t. t .answer) given, ap (λ t. t .output) given);
     }
 
 pub code-chain : CodeChain

@@ -29,7 +29,8 @@ pub record Demand1 : Type 2 where
   pub never-opened : NeverOpened
 
 -- After any calls from an opening, two cells are joined exactly when they are the same or links of the current window chain them; the
--- count of forest steps is the rule's, never above 40. Link files read and written again have the same bytes, and the reverse.
+-- count of forest steps is the rule's, never above 40. Link files read and written again have the same bytes, and the reverse; and so
+-- have text lists that are brought into link files and put out again, and the reverse.
 pub record Demand2 : Type 2 where
   pub joined : Joined ours
   pub code-joined : CodeJoined

@@ -26,8 +26,13 @@ use Rattle.file.specs.Format.{readNumber, readOf}
 use Rattle.file_write.specs.Writer.{writeNumber, outputOf}
 use Rattle.file_record.specs.Record.{packNumber}
 use Rattle.listing.specs.Listing.{listingText, outputPlaces}
+use Rattle.text_list.specs.declared.TextInAnswer.{TextInAnswer}
+use Rattle.text_list.specs.Text.{Record, bytesOf}
+use Rattle.text_list.specs.Reading.{linesOf}
+use Rattle.text_list.specs.Call.{TextIn, textInNumber, textInOf, TextOut, textOutNumber, textOutOf}
+use Rattle.text_list.specs.Promises.{IsTextOf, Taken, BreaksAt}
 use Rattle.pledges.specs.Exported.{Exported, Definition, Met, Pledged, CodeMeets, Gives}
-use Rattle.pledges.specs.Calls.{openingCall, linkCall, clockCall, playCall, joinedCall, chainCall, groupsCall, readCall, writeCall, listCall, packCall, unpackCall}
+use Rattle.pledges.specs.Calls.{openingCall, linkCall, clockCall, playCall, joinedCall, chainCall, groupsCall, readCall, writeCall, listCall, textInCall, textOutCall, packCall, unpackCall}
 use Rattle.pledges.specs.Pledges.{with1, with2, with3, with4, with5, EachCall}
 use Rattle.demands.specs.History.{Call, opening, link, clock, History, numberIn, windowOf}
 use Rattle.demands.specs.Implementation.{ours, State, after}
@@ -76,6 +81,13 @@ pub record CodeRefuses : Type 2 where
   pub kerb-list : CodeMeets listCall λ κs a r e. with2 a λ file out. with2 e λ file′ out′.
       (r .number ≡ unless (leb outputPlaces (length (now out))) 6)
       × Refusing (r .number) ((r ≡ record { length = 0; number = r .number }) × (now out′ ≡ now out))
+  -- the line is told with 13 alone
+  pub kerb-text-in : CodeMeets textInCall λ κs a r e. with3 a λ s text out. with3 e λ s′ text′ out′.
+      (r .number ≡ textInNumber s (linesOf (now text)) (length (now out)))
+      × Refusing (r .number) ((r .length ≡ 0) × ((r .number ≡ 13 → ⊥) → r .line ≡ 0) × (now out′ ≡ now out))
+  pub kerb-text-out : CodeMeets textOutCall λ κs a r e. with2 a λ file out. with2 e λ file′ out′.
+      (r .number ≡ textOutNumber (now file) (length (now out)))
+      × Refusing (r .number) ((r ≡ record { length = 0; number = r .number }) × (now out′ ≡ now out))
   pub kerb-pack : CodeMeets packCall λ κs a r e. with4 a λ tick one other out. with4 e λ tick′ one′ other′ out′.
       (r ≡ packNumber (length (now out))) × Refusing r (now out′ ≡ now out)
   pub kerb-unpack : CodeMeets unpackCall λ κs a r e. with2 a λ records i.
@@ -115,7 +127,22 @@ CodeJoined =
     × (r .steps ≡ stepsIn h one other)
     × (r .steps ≤ 40)
 
--- 2. link files: the reader, on what the writer wrote, and the writer, on what the reader took (RULES 6.5)
+-- 2. text in: taken exactly when the text is that of some records, 8,000 at most, and then what is written is what the writer writes for
+-- them; 13 with line i exactly when that line is the first that breaks the form (RULES 6.12, 6.13). What text out put out, brought in
+-- with the settings that the reader gives, is the file again (RULES 6.15)
+pub record TextTaken (s : Settings) (text out : Bytes) (answer : TextInAnswer) (out′ : Bytes) : Type 0 where
+  pub taken : (answer .number ≡ 0) ↔ Taken s text (length out)
+  pub written : (rs : List Record) → IsTextOf rs text →
+      (answer .number ≡ writeNumber s (length (bytesOf rs)) (length out)) × (out′ ≡ outputOf s (bytesOf rs) out)
+      × (answer .number ≡ 0 → answer .length ≡ 8 * length rs + endingSize)
+  pub breaks : (i : ℕ) → ((answer .number ≡ 13) × (answer .line ≡ i)) ↔ BreaksAt i text
+  pub again : (file before : Bytes) → AreBytes file →
+      let given : TextOut = textOutOf file before in
+      given .answer .number ≡ 0 → length file ≤ length out → s ≡ readOf file .settings → text ≡ take (given .answer .length) (given .output) →
+      (answer ≡ record { length = length file; line = 0; number = 0 }) × (out′ ≡ atFront file out)
+
+-- 2. link files: the reader, on what the writer wrote, and the writer, on what the reader took (RULES 6.5); and text lists, text out on what
+-- text in wrote (RULES 6.15)
 pub record CodeFiles : Type 2 where
   pub kerb-read : CodeMeets readCall λ κs a r e. with1 a λ file.
       (s : Settings) (records out : Bytes) → FitsFields s → writeNumber s (length records) (length out) ≡ 0 →
@@ -124,6 +151,13 @@ pub record CodeFiles : Type 2 where
   pub kerb-write : CodeMeets writeCall λ κs a r e. with3 a λ s records out. with3 e λ s′ records′ out′.
       (file : Bytes) → AreBytes file → readOf file .number ≡ 0 → length file ≤ length (now out) →
       s ≡ readOf file .settings → now records ≡ take (8 * readOf file .m) file → (r ≡ 0) × (now out′ ≡ atFront file (now out))
+  pub kerb-text-in : CodeMeets textInCall λ κs a r e. with3 a λ s text out. with3 e λ s′ text′ out′.
+      TextTaken s (now text) (now out) r (now out′)
+  pub kerb-text-out : CodeMeets textOutCall λ κs a r e. with2 a λ file out. with2 e λ file′ out′.
+      (s : Settings) (text before : Bytes) → FitsFields s →
+      let given : TextIn = textInOf s text before in
+      given .answer .number ≡ 0 → length text ≤ length (now out) → now file ≡ take (given .answer .length) (given .output) →
+      (r ≡ record { length = length text; number = 0 }) × (now out′ ≡ atFront text (now out))
 
 -- 3. chain (RULES 5)
 abbrev pub CodeChain : Type 2
