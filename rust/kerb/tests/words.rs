@@ -18,6 +18,7 @@ fn refusals_say_what_the_header_says() {
         Refusal::Letters,
         Refusal::Offset,
         Refusal::Pad,
+        Refusal::Line,
     ] {
         let line = format!("{refusal}");
         assert!(printed.lines().any(|of| of == line), "{line}");
