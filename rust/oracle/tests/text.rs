@@ -131,9 +131,9 @@ fn what_breaks_the_form() {
         "\u{ff11} 2 3",
         "1\u{a0}2 3",
         "\u{feff}1 2 3",
-        "1 2 3\0",
-        "\01 2 3",
-        "1\02 3",
+        "1 2 3\u{0}",
+        "\u{0}1 2 3",
+        "1\u{0}2 3",
         "# a comment",
     ] {
         let text = format!("{}\n", line);
@@ -186,7 +186,7 @@ fn the_last_line_feed() {
     assert_eq!(brought_in("1 2 3\n "), Err((13, 1)));
     assert_eq!(brought_in("1 2 3\n\n"), Err((13, 1)));
     assert_eq!(brought_in("\n"), BROKEN);
-    assert_eq!(brought_in("1 2 3\n\0"), Err((13, 1)));
+    assert_eq!(brought_in("1 2 3\n\u{0}"), Err((13, 1)));
 }
 
 #[test]
