@@ -1,4 +1,5 @@
-//! The words of a refusal are those of include/kerb.h: what examples/numbers.c prints. And stored books, openings, the longest file.
+//! The words of a refusal are those of include/kerb.h: what examples/numbers.c prints. And stored books, openings, the longest file and text,
+//! and how a refused text is said.
 
 use kerb::{calls, Refusal};
 
