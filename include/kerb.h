@@ -11,8 +11,9 @@
  *
  * Link with libkerb.a, which wants no more of the C library than memcpy, memmove and memset. Every function answers every input.
  * What it cannot do it refuses by a number of `enum kerb_number`, and then the book and all lent places are as they were and
- * the other fields of the answer are 0 (kerb_play alone keeps the records before the one that it refuses). Beside each
- * function stand its refusals in the order in which they are asked, and the stack that it takes at most, below its caller's frame.
+ * the other fields of the answer are 0 (kerb_play alone keeps the records before the one that it refuses, and kerb_text_in alone
+ * says which line it refuses). Beside each function stand its refusals in the order in which they are asked, and the stack that
+ * it takes at most, below its caller's frame.
  *
  * What the proofs take for granted of a caller in C:
  *   - a pointer is not NULL (not even where its length is 0), is aligned for its type, and stands for as many places as the
@@ -55,10 +56,12 @@ enum {
     /* places that a log and a chain buffer need */
     KERB_LOG_PLACES = 16384,
     KERB_CHAIN_PLACES = 1024,
-    /* bytes of a record, of the longest link file, and of the text that kerb_list needs room for */
+    /* bytes of a record, of the longest link file, of the text that kerb_list needs room for, and of the longest text that
+       kerb_text_out gives: 8,000 lines of 23 bytes */
     KERB_RECORD_BYTES = 8,
     KERB_FILE_BYTES = 64024,
-    KERB_LISTING_BYTES = 20480
+    KERB_LISTING_BYTES = 20480,
+    KERB_TEXT_BYTES = 184000
 };
 
 /* The numbers that a call can give. kerb_status_text has them in words. */
@@ -75,7 +78,8 @@ enum kerb_number {
     KERB_LENGTH = 9,      /* the length is that of no link file, or of no records */
     KERB_LETTERS = 10,    /* the last four bytes of the file are not KERB */
     KERB_OFFSET = 11,     /* the file's offset and count do not agree with its length */
-    KERB_PAD = 12         /* a pad byte of the file is not zero */
+    KERB_PAD = 12,        /* a pad byte of the file is not zero */
+    KERB_LINE = 13        /* a line of the text breaks the form */
 };
 
 enum kerb_mounting { KERB_PLAIN = 1, KERB_MIRRORED = 2 };
@@ -140,6 +144,17 @@ struct kerb_play_answer {
 };
 
 struct kerb_list_answer {
+    size_t length; /* how many bytes of text stand at the front of the output */
+    uint8_t number;
+};
+
+struct kerb_text_in_answer {
+    size_t length; /* how many bytes of link file stand at the front of the output */
+    uint64_t line; /* with KERB_LINE the number of the first line that breaks the form, counted from 0; else 0 */
+    uint8_t number;
+};
+
+struct kerb_text_out_answer {
     size_t length; /* how many bytes of text stand at the front of the output */
     uint8_t number;
 };
@@ -233,6 +248,15 @@ KERB_AT(kerb_play_answer, number, 4);
 KERB_SIZE(kerb_list_answer, 16);
 KERB_AT(kerb_list_answer, length, 0);
 KERB_AT(kerb_list_answer, number, 8);
+
+KERB_SIZE(kerb_text_in_answer, 24);
+KERB_AT(kerb_text_in_answer, length, 0);
+KERB_AT(kerb_text_in_answer, line, 8);
+KERB_AT(kerb_text_in_answer, number, 16);
+
+KERB_SIZE(kerb_text_out_answer, 16);
+KERB_AT(kerb_text_out_answer, length, 0);
+KERB_AT(kerb_text_out_answer, number, 8);
 
 KERB_SIZE(kerb_groups_answer, 8);
 KERB_AT(kerb_groups_answer, links, 0);
@@ -386,6 +410,30 @@ KERB_LOOK_AT uint8_t kerb_pack(uint32_t tick, uint16_t one, uint16_t other, uint
 KERB_LOOK_AT struct kerb_record_answer kerb_unpack(const uint8_t *records, size_t records_bytes, uint32_t i);
 
 /*
+ * TEXT LISTS. One link a line: two cells and a tick, in decimal, one blank between, a line feed after each, as in "94 95 400". No
+ * sign, and no leading zero except 0 itself. A cell is at most 65,535, a tick at most 4,294,967,295; the cells are in the unit's
+ * numbers and not judged further, as in link files. A line runs to its line feed: bytes after the last one are a line that breaks
+ * the form. Empty text is no lines.
+ */
+
+/*
+ * A link file of these settings and the links of a text, a record for each line: 8m + 24 bytes at the front of the output; no byte
+ * beyond is touched.
+ * Refuses, in this order: 13 (the first line that breaks the form, past the 8,000th too), 2, 9 (more than 8,000 lines), 6 (the
+ * output). Stack: 1 KB.
+ */
+KERB_LOOK_AT struct kerb_text_in_answer kerb_text_in(struct kerb_settings settings, const uint8_t *text, size_t text_bytes,
+                                                     uint8_t *out, size_t out_bytes);
+
+/*
+ * The links of a link file as text, at the front of the output; no byte beyond is touched, and no zero byte ends it. Of this text
+ * and the settings that kerb_read gives, kerb_text_in makes the same file.
+ * Refuses, in this order: 9, 10, 11, 12, 2 as kerb_read; then 6, an output shorter than the text: KERB_TEXT_BYTES are always
+ * enough. Stack: 1 KB.
+ */
+KERB_LOOK_AT struct kerb_text_out_answer kerb_text_out(const uint8_t *file, size_t file_bytes, uint8_t *out, size_t out_bytes);
+
+/*
  * THE VERSION. A library has the function of its own version and of no other, and opening a book calls it: a program that was
  * compiled with this header does not link with a library of another version ("undefined reference to kerb_version_2").
  * kerb_version() gives KERB_VERSION, kerb_book_size() sizeof(struct kerb_book).
@@ -433,6 +481,8 @@ static inline const char *kerb_status_text(uint8_t number)
         return "the file's offset and count do not agree with its length";
     case KERB_PAD:
         return "a pad byte of the file is not zero";
+    case KERB_LINE:
+        return "a line of the text breaks the form";
     default:
         return "no number of this library";
     }

@@ -22,5 +22,7 @@ int main(void)
     kerb_list(bytes, 24, KERB_PLACES(bytes));                                                      /* warns */
     kerb_pack(0, 1, 2, KERB_PLACES(bytes));                                                        /* warns */
     kerb_unpack(bytes, 24, 0);                                                                     /* warns */
+    kerb_text_in(settings, bytes, 24, KERB_PLACES(bytes));                                         /* warns */
+    kerb_text_out(bytes, 24, KERB_PLACES(bytes));                                                  /* warns */
     return kerb_version() == KERB_VERSION ? 0 : 1;
 }

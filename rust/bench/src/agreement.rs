@@ -3,9 +3,12 @@
 
 use crate::any_book::AnyBook;
 use crate::library::Library;
+use crate::peer;
 use crate::workload::{Calls, Workload};
-use kerb::calls::{ChainAnswer, JoinedAnswer};
+use kerb::calls::{self, ChainAnswer, JoinedAnswer, Settings};
 use kerb::CHAIN_PLACES;
+use streams::texts::Texts;
+use streams::{lent_bytes, Call};
 
 /// What a call gives.
 #[derive(Debug, PartialEq)]
@@ -55,4 +58,42 @@ fn answers<C: AnyBook>(book: &mut C, calls: &Calls, steps: bool, chains: bool) -
             })
             .collect(),
     }
+}
+
+/// Calls with texts that are compared.
+const TEXTS: usize = 400;
+
+/// The same of (a) for text in and text out: texts and files, good and bad, with outputs that are long enough or not.
+pub fn check_texts() {
+    for call in Texts::new(1).take(TEXTS) {
+        match call {
+            Call::TextIn {
+                settings,
+                text,
+                output_bytes,
+            } => {
+                let settings = Settings {
+                    t0: settings.t0,
+                    b: settings.b,
+                    n: settings.n as u8,
+                    mounting: settings.mounting as u8,
+                };
+                let theirs = with_output(output_bytes, |out| peer::text_in(settings, &text, out));
+                let ours = with_output(output_bytes, |out| calls::text_in(settings, &text, out));
+                assert!(theirs == ours, "(a) and the library differ in text in");
+            }
+            Call::TextOut { file, output_bytes } => {
+                let theirs = with_output(output_bytes, |out| peer::text_out(&file, out));
+                let ours = with_output(output_bytes, |out| calls::text_out(&file, out));
+                assert!(theirs == ours, "(a) and the library differ in text out");
+            }
+            _ => unreachable!("a call without a text"),
+        }
+    }
+}
+
+/// What a call gives, and the output that it was lent.
+fn with_output<A>(bytes: usize, call: impl FnOnce(&mut [u8]) -> A) -> (A, Vec<u8>) {
+    let mut out = lent_bytes(bytes);
+    (call(&mut out), out)
 }

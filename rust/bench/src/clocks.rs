@@ -1,5 +1,5 @@
 //! Two clocks. A batch of short calls is timed by the wall clock: it fits between two interruptions, and so the least of several
-//! rounds is undisturbed. A listing of a whole file does not fit: what counts there is the processor's time for this thread.
+//! rounds is undisturbed. A call over a whole file does not fit: what counts there is the processor's time for this thread.
 
 use std::time::Instant;
 

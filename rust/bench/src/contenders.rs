@@ -35,7 +35,7 @@ fn contender<C: AnyBook>(
 }
 
 /// The peer of each call: the quickest method that we know, and by which (a), and (b) without number 1, make it.
-pub const METHODS: [(&str, &str); 5] = [
+pub const METHODS: [(&str, &str); 7] = [
     (
         Kind::Link.name(),
         "two walks in the forest in place; number 1 by the size test",
@@ -55,6 +55,14 @@ pub const METHODS: [(&str, &str); 5] = [
     (
         "kerblist",
         "number 1 asked at no record; groups by links united newest first",
+    ),
+    (
+        "text in",
+        "one pass over the bytes; the records stand beside the output, and are copied once all lines are judged",
+    ),
+    (
+        "text out",
+        "one pass over the records, two digits at a time; the text is measured first only where the longest lines would not fit",
     ),
 ];
 

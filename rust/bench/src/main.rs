@@ -8,7 +8,6 @@ mod clocks;
 mod components;
 mod contenders;
 mod library;
-mod listings;
 mod machine;
 mod neighbours;
 mod peer;
@@ -20,6 +19,7 @@ mod stack;
 mod stacks;
 mod table;
 mod timing;
+mod whole_files;
 mod window;
 mod workload;
 
@@ -65,6 +65,7 @@ fn report(contenders: &[Contender], workloads: &[Workload]) {
         ("dense, 8,000 records", file(&file_of_dense, 8_000)),
     ];
     report::compare(contenders, workloads);
+    agreement::check_texts();
     println!("\n## The peer of each call\n");
     report::print_methods();
     println!("\n## The library's time over that of each baseline\n");
@@ -81,7 +82,7 @@ fn report(contenders: &[Contender], workloads: &[Workload]) {
         ("dense, 4,000 records", file(&file_of_dense, 4_000)),
         ("dense, 8,000 records", file(&file_of_dense, 8_000)),
     ];
-    report::print_listing_growth(&files);
+    report::print_file_growth(&files);
 
     println!("\n## Stack of each call\n");
     report::print_stacks();
@@ -92,7 +93,7 @@ fn print_head(contenders: &[Contender]) {
     machine::print();
     println!("times: the least of several rounds in which all take turns, batch by batch of calls");
     println!("log: cleared by opening alone, which is not timed");
-    println!("chain buffer, kerblist's output: lent to call after call, not cleared");
+    println!("chain buffer, outputs of whole files: lent to call after call, not cleared");
     for contender in contenders {
         println!("{}: {}", contender.name, contender.what);
     }

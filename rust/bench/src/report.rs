@@ -1,11 +1,11 @@
 //! What is measured for each table, and its rows.
 
 use crate::contenders::{Contender, METHODS};
-use crate::listings::{self, Named};
 use crate::stack::LEAST;
 use crate::stacks;
 use crate::table::{print, ratio, whole};
 use crate::timing::{least_times, per_call};
+use crate::whole_files::{text_of, Named, WHOLES};
 use crate::workload::{Kind, Workload, KINDS};
 
 /// Nanoseconds a call, for each contender that has such a call; the library comes first and (a) second.
@@ -60,7 +60,7 @@ pub fn compare(contenders: &[Contender], workloads: &[Workload]) {
     }
 }
 
-/// The library's time over everyone else's, on workloads and on the listings of files.
+/// The library's time over everyone else's, on workloads and on whole files.
 pub fn print_ratios(contenders: &[Contender], workloads: &[Workload], files: &[Named]) {
     let mut rows = Vec::new();
     for measured in measure(contenders, workloads) {
@@ -76,8 +76,10 @@ pub fn print_ratios(contenders: &[Contender], workloads: &[Workload], files: &[N
             .collect();
         rows.extend(ratio_row(contenders, name, "link and joined, sum", &both));
     }
-    for ((name, _), times) in files.iter().zip(listings::times(files)) {
-        rows.extend(ratio_row(contenders, name, "kerblist", &times));
+    for whole in WHOLES {
+        for ((name, _), times) in files.iter().zip(whole.times(files)) {
+            rows.extend(ratio_row(contenders, name, whole.name, &times));
+        }
     }
     let mut head = vec!["workload", "call", "library, ns"];
     head.extend(contenders[1..].iter().map(|contender| contender.name));
@@ -126,14 +128,21 @@ pub fn print_growth(contenders: &[Contender], workloads: &[Workload]) {
     print(&head, 1, &rows);
 }
 
-/// The same for listings.
-pub fn print_listing_growth(files: &[Named]) {
-    let rows: Vec<Vec<String>> = files
+/// The same for whole files.
+pub fn print_file_growth(files: &[Named]) {
+    let bytes = |file: &[u8]| whole(text_of(file).len() as f64);
+    let mut rows: Vec<Vec<String>> = files
         .iter()
-        .zip(listings::times(files))
-        .map(|((name, _), times)| vec![name.to_string(), growth_cell(&times)])
+        .map(|(name, file)| vec![name.to_string(), bytes(file)])
         .collect();
-    print(&["file", "kerblist"], 1, &rows);
+    let mut head = vec!["file", "bytes of text"];
+    for whole in WHOLES {
+        for (row, times) in rows.iter_mut().zip(whole.times(files)) {
+            row.push(growth_cell(&times));
+        }
+        head.push(whole.name);
+    }
+    print(&head, 1, &rows);
 }
 
 fn growth_cell(times: &[Option<f64>]) -> String {
@@ -171,5 +180,6 @@ mod tests {
             deep_crossing(1024),
         ];
         super::compare(&contenders::all(), &workloads);
+        crate::agreement::check_texts();
     }
 }

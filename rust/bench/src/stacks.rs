@@ -5,7 +5,8 @@ use crate::library::Library;
 use crate::scenes::{deep_crossing, dense, file, long_chain};
 use crate::stack::used;
 use crate::workload::{Calls, Pair, Workload};
-use kerb::{Mounting, RawBook, Settings, UnitCell, CHAIN_PLACES, LISTING_BYTES, LOG_PLACES};
+use kerb::{Mounting, RawBook, Settings, UnitCell};
+use kerb::{CHAIN_PLACES, LISTING_BYTES, LOG_PLACES, TEXT_BYTES};
 use oracle::{LONGEST_FILE, MOST_RECORDS, TAIL_BYTES};
 use std::hint::black_box;
 
@@ -119,6 +120,15 @@ fn files(stacks: &mut Vec<Stack>) {
         kerb::list(&file, &mut text).expect("a long enough output");
     });
     stacks.push(("list, 8,000 records", listing));
+    let mut text = vec![0; TEXT_BYTES];
+    let mut length = 0;
+    let putting_out = used(|| length = kerb::text_out(&file, &mut text).expect("a good file"));
+    let text = &text[..length];
+    let bringing_in = used(|| {
+        kerb::text_in(settings, text, &mut out).expect("a good text");
+    });
+    stacks.push(("text in, 8,000 lines", bringing_in));
+    stacks.push(("text out, 8,000 records", putting_out));
     let mut book = kerb::Book::open(settings).expect("good settings");
     let playing = used(|| {
         book.play(&file).expect("a good file");

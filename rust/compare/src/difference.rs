@@ -74,7 +74,10 @@ fn parts(state: &State) -> Vec<(&'static str, Vec<u32>)> {
     ]
 }
 
-/// A call, without the bytes of its file.
+/// So many bytes of a text are shown.
+const SHOWN: usize = 200;
+
+/// A call, without the bytes of its file; of a text the first ones.
 fn shown_call(call: &Call) -> String {
     match call {
         Call::Read { file } => format!("Read a file of {} bytes", file.len()),
@@ -90,6 +93,22 @@ fn shown_call(call: &Call) -> String {
         ),
         Call::List { file, output_bytes } => format!(
             "List a file of {} bytes, output of {} bytes",
+            file.len(),
+            output_bytes
+        ),
+        Call::TextIn {
+            settings,
+            text,
+            output_bytes,
+        } => format!(
+            "Text in, {:?}, {} bytes of text, output of {} bytes: {}",
+            settings,
+            text.len(),
+            output_bytes,
+            text[..SHOWN.min(text.len())].escape_ascii()
+        ),
+        Call::TextOut { file, output_bytes } => format!(
+            "Text out, a file of {} bytes, output of {} bytes",
             file.len(),
             output_bytes
         ),
@@ -128,6 +147,28 @@ fn shown_answer(answer: &Answer) -> String {
             number,
             length,
             String::from_utf8_lossy(output.get(..*length).unwrap_or_default()),
+            written(output, &lent_bytes(output.len()))
+        ),
+        Answer::TextIn {
+            number,
+            length,
+            line,
+            output,
+        } => format!(
+            "number {}, length {}, line {}; {}",
+            number,
+            length,
+            line,
+            written(output, &lent_bytes(output.len()))
+        ),
+        Answer::TextOut {
+            number,
+            length,
+            output,
+        } => format!(
+            "number {}, length {}; {}",
+            number,
+            length,
             written(output, &lent_bytes(output.len()))
         ),
         answer => format!("{:?}", answer),

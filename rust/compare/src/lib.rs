@@ -8,8 +8,8 @@
 //! - [`altered`] does it for books that calls did not leave, with docs/BOOK.md
 //!   in the oracle's place;
 //! - [`seen`] says which classes a call falls in, by the oracle's data alone, the
-//!   crossings that were needed and the ties among them; [`Tally`] counts them
-//!   and knows which stayed empty;
+//!   crossings that were needed and the ties among them, [`texts`] those of the
+//!   calls with texts; [`Tally`] counts them and knows which stayed empty;
 //! - [`run`] has what the runs share: the seed, the cores, the verdict.
 
 #![forbid(unsafe_code)]
@@ -24,6 +24,7 @@ pub mod run;
 pub mod seen;
 mod state;
 mod tally;
+pub mod texts;
 mod ties;
 
 pub use difference::Difference;

@@ -44,6 +44,12 @@ pub fn ask(state: &mut State, call: &Call) -> Answer {
             output_bytes,
         } => ask_write(*settings, records, *output_bytes),
         Call::List { file, output_bytes } => ask_list(file, *output_bytes),
+        Call::TextIn {
+            settings,
+            text,
+            output_bytes,
+        } => ask_text_in(*settings, text, *output_bytes),
+        Call::TextOut { file, output_bytes } => ask_text_out(file, *output_bytes),
     }
 }
 
@@ -117,6 +123,27 @@ fn ask_list(file: &[u8], bytes: usize) -> Answer {
     Answer::List {
         number: u32::from(listed.number),
         length: listed.length,
+        output,
+    }
+}
+
+fn ask_text_in(settings: Settings, text: &[u8], bytes: usize) -> Answer {
+    let mut output = lent_bytes(bytes);
+    let answer = calls::text_in(narrow(settings), text, &mut output);
+    Answer::TextIn {
+        number: u32::from(answer.number),
+        length: answer.length,
+        line: answer.line,
+        output,
+    }
+}
+
+fn ask_text_out(file: &[u8], bytes: usize) -> Answer {
+    let mut output = lent_bytes(bytes);
+    let answer = calls::text_out(file, &mut output);
+    Answer::TextOut {
+        number: u32::from(answer.number),
+        length: answer.length,
         output,
     }
 }

@@ -2,7 +2,7 @@
 //! history and answer; the library has no say in it.
 
 use crate::crossings::crossings;
-use crate::tally::{number, span, Spans, Tally, NUMBERS};
+use crate::tally::{names, number, span, Spans, Tally, NUMBERS};
 use crate::ties::has_ties;
 use oracle::{History, Link, Settings};
 use streams::hops::is_hop;
@@ -129,10 +129,6 @@ pub(crate) fn hop(before: u32, after: u32) -> &'static str {
     HOPS[usize::from(!is_hop(before, after))]
 }
 
-fn names(spans: &Spans) -> Vec<&'static str> {
-    spans.iter().map(|of| of.1).collect()
-}
-
 /// Where the time stood.
 #[derive(Clone, Copy, Debug)]
 pub struct Moment {
@@ -195,7 +191,8 @@ pub fn count(
     }
 }
 
-fn number_row(call: &Call) -> &'static str {
+/// The row of a call's number.
+pub(crate) fn number_row(call: &Call) -> &'static str {
     match call {
         Call::Opening { .. } => "opening, number",
         Call::Link { .. } => "link, number",
@@ -205,6 +202,8 @@ fn number_row(call: &Call) -> &'static str {
         Call::Read { .. } => "reader, number",
         Call::Write { .. } => "writer, number",
         Call::List { .. } => "listing, number",
+        Call::TextIn { .. } => "text in, number",
+        Call::TextOut { .. } => "text out, number",
     }
 }
 

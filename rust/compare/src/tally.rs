@@ -100,6 +100,11 @@ pub fn number(number: u32) -> &'static str {
 /// at the least number there is.
 pub type Spans = [(u64, &'static str)];
 
+/// Their names.
+pub fn names(spans: &Spans) -> Vec<&'static str> {
+    spans.iter().map(|of| of.1).collect()
+}
+
 /// The class that a number is in.
 pub fn span(spans: &Spans, number: u64) -> &'static str {
     let mut latest_first = spans.iter().rev();

@@ -9,19 +9,7 @@ use common::*;
 use compare::Lockstep;
 use oracle::{CHAIN_PLACES, LOG_PLACES};
 use streams::files::file_of;
-use streams::{Call, LISTING_BYTES};
-
-/// Every choice of yes or no for so many faults.
-fn all_sets<const N: usize>() -> Vec<[bool; N]> {
-    let set = |bits: u32| {
-        let mut faults = [false; N];
-        for (place, fault) in faults.iter_mut().enumerate() {
-            *fault = bits >> place & 1 == 1;
-        }
-        faults
-    };
-    (0..1 << N).map(set).collect()
-}
+use streams::{Answer, Call, LISTING_BYTES};
 
 /// The number of the first fault, in the order of the checks.
 fn first<const N: usize>(order: [u32; N], faults: [bool; N]) -> u32 {
@@ -143,22 +131,26 @@ fn logs_and_chain_buffers_of_every_kind_of_length() {
     }
 }
 
+/// A file of two records with these faults.
+fn file_with([length, letters, offset, pad, n]: [bool; 5]) -> Vec<u8> {
+    let mut file = file_of(settings(3, 10, 1, 5), &records(&[(5, 1, 2), (6, 3, 4)]));
+    let end = file.len();
+    file[end - 1] ^= u8::from(letters);
+    file[end - 8] ^= u8::from(offset);
+    file[end - 13] ^= u8::from(pad);
+    if n {
+        file[end - 16] = 17;
+    }
+    if length {
+        file.insert(0, 0);
+    }
+    file
+}
+
 #[test]
 fn reader_9_10_11_12_2() {
-    let good = file_of(settings(3, 10, 1, 5), &records(&[(5, 1, 2), (6, 3, 4)]));
     for faults in all_sets() {
-        let [length, letters, offset, pad, n] = faults;
-        let mut file = good.clone();
-        let end = file.len();
-        file[end - 1] ^= u8::from(letters);
-        file[end - 8] ^= u8::from(offset);
-        file[end - 13] ^= u8::from(pad);
-        if n {
-            file[end - 16] = 17;
-        }
-        if length {
-            file.insert(0, 0);
-        }
+        let file = file_with(faults);
         let given = number(&mut Lockstep::new(), Call::Read { file });
         assert_eq!(given, first([9, 10, 11, 12, 2], faults));
     }
@@ -195,5 +187,63 @@ fn listing_6() {
             let given = number(&mut Lockstep::new(), call);
             assert_eq!(given == 6, short);
         }
+    }
+}
+
+#[test]
+fn text_in_13_2_9_6() {
+    for faults in all_sets() {
+        let [bad_line, mounting, too_many, short] = faults;
+        let mut text = b"1 2 3\n".repeat(if too_many { 8_001 } else { 2 });
+        if bad_line {
+            text.extend(b"4 5\n");
+        }
+        let call = Call::TextIn {
+            settings: settings(3, 10, if mounting { 0 } else { 1 }, 5),
+            text,
+            output_bytes: if short { 39 } else { 64_040 },
+        };
+        let given = number(&mut Lockstep::new(), call);
+        assert_eq!(given, first([13, 2, 9, 6], faults));
+    }
+}
+
+#[test]
+fn text_out_9_10_11_12_2_6() {
+    let text = "1 2 5\n3 4 6\n";
+    for faults in all_sets::<6>() {
+        let [of_file @ .., short] = faults;
+        let call = Call::TextOut {
+            file: file_with(of_file),
+            output_bytes: text.len() - usize::from(short),
+        };
+        let given = number(&mut Lockstep::new(), call);
+        assert_eq!(given, first([9, 10, 11, 12, 2, 6], faults));
+    }
+}
+
+/// 8,000 lines are taken and 8,001 are not; the lines past the 8,000th are judged.
+#[test]
+fn texts_of_8000_lines_and_more() {
+    for (lines, end, expected) in [
+        (8_000, "", (0, 0)),
+        (8_001, "", (9, 0)),
+        (7_999, "1 2\n", (13, 7_999)),
+        (8_000, "1 2 3", (13, 8_000)),
+        (8_000, "\n", (13, 8_000)),
+        (8_001, "1 2 03\n1\n", (13, 8_001)),
+        (100_000, "", (9, 0)),
+        (100_000, "65536 2 3\n", (13, 100_000)),
+    ] {
+        let call = Call::TextIn {
+            settings: settings(3, 10, 1, 5),
+            text: ("1 2 3\n".repeat(lines) + end).into_bytes(),
+            output_bytes: 64_024,
+        };
+        let given = match put(&mut Lockstep::new(), call) {
+            Answer::TextIn { number, line, .. } => (number, line),
+            other => unreachable!("{:?}", other),
+        };
+        assert_eq!(given, expected, "{lines} lines and {end:?}");
     }
 }

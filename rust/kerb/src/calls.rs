@@ -86,6 +86,21 @@ pub struct ListAnswer {
 
 #[derive(Clone, Copy, Debug, PartialEq, Eq)]
 #[repr(C)]
+pub struct TextInAnswer {
+    pub length: usize,
+    pub line: u64,
+    pub number: u8,
+}
+
+#[derive(Clone, Copy, Debug, PartialEq, Eq)]
+#[repr(C)]
+pub struct TextOutAnswer {
+    pub length: usize,
+    pub number: u8,
+}
+
+#[derive(Clone, Copy, Debug, PartialEq, Eq)]
+#[repr(C)]
 pub struct PlayAnswer {
     pub taken: u32,
     pub number: u8,
@@ -147,6 +162,8 @@ mod layout {
     laid_out!(ChainAnswer, 16, newest at 0, cells at 8, hold at 10, number at 11);
     laid_out!(ReadAnswer, 20, settings at 0, m at 12, number at 16);
     laid_out!(ListAnswer, 16, length at 0, number at 8);
+    laid_out!(TextInAnswer, 24, length at 0, line at 8, number at 16);
+    laid_out!(TextOutAnswer, 16, length at 0, number at 8);
     laid_out!(PlayAnswer, 8, taken at 0, number at 4);
     laid_out!(GroupsAnswer, 8, links at 0, number at 4);
     laid_out!(RecordAnswer, 12, tick at 0, one at 4, other at 6, number at 8);
@@ -197,6 +214,19 @@ mod library {
             out: *mut u8,
             out_bytes: usize,
         ) -> ListAnswer;
+        pub fn kerb_text_in(
+            settings: Settings,
+            text: *const u8,
+            text_bytes: usize,
+            out: *mut u8,
+            out_bytes: usize,
+        ) -> TextInAnswer;
+        pub fn kerb_text_out(
+            file: *const u8,
+            file_bytes: usize,
+            out: *mut u8,
+            out_bytes: usize,
+        ) -> TextOutAnswer;
         pub safe fn kerb_version_2() -> u32;
         pub safe fn kerb_book_size() -> usize;
         pub safe fn kerb_lorry_cell(mounting: u8, cell: u16) -> u16;
@@ -269,6 +299,15 @@ pub fn write(settings: Settings, records: &[u8], out: &mut [u8]) -> u8 {
 
 pub fn list(file: &[u8], out: &mut [u8]) -> ListAnswer {
     unsafe { library::kerb_list(file.as_ptr(), file.len(), out.as_mut_ptr(), out.len()) }
+}
+
+pub fn text_in(settings: Settings, text: &[u8], out: &mut [u8]) -> TextInAnswer {
+    let (bytes, len) = (out.as_mut_ptr(), out.len());
+    unsafe { library::kerb_text_in(settings, text.as_ptr(), text.len(), bytes, len) }
+}
+
+pub fn text_out(file: &[u8], out: &mut [u8]) -> TextOutAnswer {
+    unsafe { library::kerb_text_out(file.as_ptr(), file.len(), out.as_mut_ptr(), out.len()) }
 }
 
 mod all {

@@ -1,4 +1,4 @@
-//! Link files: records of 8 bytes, then settings and trailer. Their cells are in the unit's numbers.
+//! Link files: records of 8 bytes, then settings and trailer. Their cells are in the unit's numbers. And links as text, one a line.
 
 use crate::{calls, Mounting, Refusal, Settings};
 use crate::{UnitCell, RECORD_BYTES};
@@ -79,4 +79,60 @@ pub fn unpack(records: &[u8], i: u32) -> Result<Record, Refusal> {
         one: UnitCell(answer.one),
         other: UnitCell(answer.other),
     })
+}
+
+/// Where a text was refused, and why.
+#[derive(Clone, Copy, Debug, PartialEq, Eq)]
+pub struct TextRefused {
+    pub refusal: Refusal,
+    /// Of `Refusal::Line` the line's number, counted from 0; else 0.
+    pub line: u64,
+}
+
+impl fmt::Display for TextRefused {
+    fn fmt(&self, f: &mut fmt::Formatter) -> fmt::Result {
+        match self.refusal {
+            Refusal::Line => write!(f, "after {} lines, {}", self.line, self.refusal),
+            refusal => refusal.fmt(f),
+        }
+    }
+}
+
+impl core::error::Error for TextRefused {}
+
+/// A link file of these settings and the links of a text, at the front of the output: how many bytes of file, `RECORD_BYTES` for
+/// each line and `ENDING_BYTES`. A line is two cells and a tick, in decimal, one blank between, and a line feed.
+///
+/// ```
+/// use kerb::{text_in, text_out, Mounting, Refusal, Settings, TextRefused, FILE_BYTES, TEXT_BYTES};
+///
+/// let settings = Settings { t0: 0, b: 10, n: 3, mounting: Mounting::Plain };
+/// let mut file = vec![0; FILE_BYTES];
+/// let length = text_in(settings, b"1 2 0\n2 3 7\n", &mut file)?;
+/// assert_eq!(kerb::read(&file[..length]), Ok((settings, 2)));
+///
+/// let mut text = vec![0; TEXT_BYTES];
+/// let length = text_out(&file[..length], &mut text)?;
+/// assert_eq!(text[..length], *b"1 2 0\n2 3 7\n");
+///
+/// let refused = text_in(settings, b"1 2 0\n2 3 07\n", &mut file).unwrap_err();
+/// assert_eq!(refused, TextRefused { refusal: Refusal::Line, line: 1 });
+/// assert_eq!(refused.to_string(), "after 1 lines, number 13: a line of the text breaks the form");
+/// # Ok::<(), Box<dyn std::error::Error>>(())
+/// ```
+pub fn text_in(settings: Settings, text: &[u8], out: &mut [u8]) -> Result<usize, TextRefused> {
+    let answer = calls::text_in(settings.raw(), text, out);
+    let at_line = |refusal| TextRefused {
+        refusal,
+        line: answer.line,
+    };
+    Refusal::unless_done(answer.number).map_err(at_line)?;
+    Ok(answer.length)
+}
+
+/// The links of a link file as text, at the front of the output: how many bytes of text, `TEXT_BYTES` at most.
+pub fn text_out(file: &[u8], out: &mut [u8]) -> Result<usize, Refusal> {
+    let answer = calls::text_out(file, out);
+    Refusal::unless_done(answer.number)?;
+    Ok(answer.length)
 }

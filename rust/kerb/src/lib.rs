@@ -39,6 +39,7 @@ pub use calls::RawBook;
 pub use cells::{LorryCell, Mounting, UnitCell};
 pub use files::{list, read, write};
 pub use files::{pack, unpack, Record, Stopped};
+pub use files::{text_in, text_out, TextRefused};
 pub use refusal::Refusal;
 
 /// How many cells there are.
@@ -55,6 +56,8 @@ pub const RECORD_BYTES: usize = 8;
 pub const ENDING_BYTES: usize = 24;
 /// Bytes of the longest link file.
 pub const FILE_BYTES: usize = 64_024;
+/// Bytes of the longest text that a link file gives: 8,000 lines of 23 bytes.
+pub const TEXT_BYTES: usize = 184_000;
 
 /// What a book opens with and a link file carries. There is no default: each panel has to say how its unit is fitted.
 #[derive(Clone, Copy, Debug, PartialEq, Eq)]

@@ -23,6 +23,7 @@ pub enum Refusal {
     Letters = 10,
     Offset = 11,
     Pad = 12,
+    Line = 13,
 }
 
 impl Refusal {
@@ -46,6 +47,7 @@ impl Refusal {
             Refusal::Letters => "the last four bytes of the file are not KERB",
             Refusal::Offset => "the file's offset and count do not agree with its length",
             Refusal::Pad => "a pad byte of the file is not zero",
+            Refusal::Line => "a line of the text breaks the form",
         }
     }
 
@@ -64,6 +66,7 @@ impl Refusal {
             10 => Refusal::Letters,
             11 => Refusal::Offset,
             12 => Refusal::Pad,
+            13 => Refusal::Line,
             _ => unreachable!("the library gives no number {number}"),
         };
         Err(refusal)
@@ -85,7 +88,7 @@ mod tests {
     #[test]
     fn a_number_gives_the_refusal_of_that_number() {
         assert_eq!(Refusal::unless_done(0), Ok(()));
-        for number in 1..=12 {
+        for number in 1..=13 {
             let refusal = Refusal::unless_done(number).unwrap_err();
             assert_eq!(refusal.number(), number);
         }

@@ -1,4 +1,5 @@
-//! The words of a refusal are those of include/kerb.h: what examples/numbers.c prints. And stored books, openings, the longest file.
+//! The words of a refusal are those of include/kerb.h: what examples/numbers.c prints. And stored books, openings, the longest file and text,
+//! and how a refused text is said.
 
 use kerb::{calls, Refusal};
 
@@ -18,6 +19,7 @@ fn refusals_say_what_the_header_says() {
         Refusal::Letters,
         Refusal::Offset,
         Refusal::Pad,
+        Refusal::Line,
     ] {
         let line = format!("{refusal}");
         assert!(printed.lines().any(|of| of == line), "{line}");
@@ -97,4 +99,47 @@ fn the_longest_link_file() {
     let longer = vec![0; records.len() + kerb::RECORD_BYTES];
     let refused = kerb::write(settings, &longer, &mut file);
     assert_eq!(refused, Err(Refusal::Length));
+}
+
+/// The longest text has as many bytes as the constant says.
+#[test]
+fn the_longest_text() {
+    let settings = kerb::Settings {
+        t0: 0,
+        b: 1,
+        n: 1,
+        mounting: kerb::Mounting::Plain,
+    };
+    let mut file = vec![0; kerb::FILE_BYTES];
+    let records = vec![0xFF; kerb::FILE_BYTES - kerb::ENDING_BYTES];
+    kerb::write(settings, &records, &mut file).unwrap();
+    let mut text = vec![0; kerb::TEXT_BYTES];
+    assert_eq!(kerb::text_out(&file, &mut text), Ok(kerb::TEXT_BYTES));
+    assert!(text.starts_with(b"65535 65535 4294967295\n"));
+    let refused = kerb::text_out(&file, &mut text[1..]);
+    assert_eq!(refused, Err(Refusal::Short));
+}
+
+/// A refused text says its line where a line is at fault, and the number alone where none is.
+#[test]
+fn refused_texts() {
+    let settings = |n| kerb::Settings {
+        t0: 0,
+        b: 1,
+        n,
+        mounting: kerb::Mounting::Plain,
+    };
+    let said = |n, text: &str, room| {
+        let refused = kerb::text_in(settings(n), text.as_bytes(), &mut vec![0; room]);
+        refused.unwrap_err().to_string()
+    };
+    let line = "after 1 lines, number 13: a line of the text breaks the form";
+    assert_eq!(said(17, "1 2 3\n4 5\n", 0), line);
+    let number = |refusal: Refusal| refusal.to_string();
+    assert_eq!(said(17, "1 2 3\n", 0), number(Refusal::Settings));
+    assert_eq!(
+        said(1, &"1 2 3\n".repeat(8_001), 0),
+        number(Refusal::Length)
+    );
+    assert_eq!(said(1, "1 2 3\n", 31), number(Refusal::Short));
 }

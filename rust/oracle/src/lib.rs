@@ -1,10 +1,10 @@
 //! An independent reading of the document "The intended build and its rules".
 //!
-//! This program was written from that page alone. It keeps the plain list of
-//! all accepted links and searches the window's links afresh for every
-//! question. The two forests are built for the step counts only, link by link
-//! as the rules say, and thrown away again. Nothing is remembered from one
-//! question to the next.
+//! This program was written from that page alone, and the text lists from the
+//! request for them. It keeps the plain list of all accepted links and searches
+//! the window's links afresh for every question. The two forests are built for
+//! the step counts only, link by link as the rules say, and thrown away again.
+//! Nothing is remembered from one question to the next.
 //!
 //! Every call gives `Ok` with its result fields, or `Err` with the refusal.
 //! "With a refusal the other result fields are 0" is then
@@ -25,6 +25,7 @@ mod joined;
 mod listing;
 mod refusal;
 mod search;
+mod text;
 
 pub use book::{Book, History, Link, Settings, LINKS_PER_SLIDE, LOG_PLACES};
 pub use cells::{in_lorrys_numbers, is_cell, mirrored, CELLS, MIRRORED, PLAIN, RINGS, SECTORS};
@@ -38,3 +39,4 @@ pub use joined::Joined;
 pub use listing::listing;
 pub use refusal::{number, Refusal};
 pub use search::{CellSet, Linked};
+pub use text::{line_of, text_in, text_out, TextRefused};

@@ -27,6 +27,8 @@ pub enum Refusal {
     Trailer = 11,
     /// A pad byte is not zero.
     Pad = 12,
+    /// A line of the text breaks the form.
+    Line = 13,
 }
 
 impl Refusal {

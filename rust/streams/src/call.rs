@@ -55,6 +55,17 @@ pub enum Call {
         file: Vec<u8>,
         output_bytes: usize,
     },
+    /// A text into a link file.
+    TextIn {
+        settings: Settings,
+        text: Vec<u8>,
+        output_bytes: usize,
+    },
+    /// A link file put out as text.
+    TextOut {
+        file: Vec<u8>,
+        output_bytes: usize,
+    },
 }
 
 impl Call {
@@ -99,6 +110,17 @@ pub enum Answer {
         length: usize,
         output: Vec<u8>,
     },
+    TextIn {
+        number: u32,
+        length: usize,
+        line: u64,
+        output: Vec<u8>,
+    },
+    TextOut {
+        number: u32,
+        length: usize,
+        output: Vec<u8>,
+    },
 }
 
 /// A chain buffer as it is lent: no place holds a cell's number, and
@@ -121,7 +143,9 @@ impl Answer {
             | Answer::Joined { number, .. }
             | Answer::Chain { number, .. }
             | Answer::Read { number, .. }
-            | Answer::Write { number, .. } => *number,
+            | Answer::Write { number, .. }
+            | Answer::TextIn { number, .. }
+            | Answer::TextOut { number, .. } => *number,
             Answer::List {
                 number: 0,
                 length,
@@ -176,6 +200,12 @@ pub fn ask(book: &mut Book, call: &Call) -> Answer {
             output_bytes,
         } => ask_write(*settings, records, *output_bytes),
         Call::List { file, output_bytes } => ask_list(file, *output_bytes),
+        Call::TextIn {
+            settings,
+            text,
+            output_bytes,
+        } => ask_text_in(*settings, text, *output_bytes),
+        Call::TextOut { file, output_bytes } => ask_text_out(file, *output_bytes),
     }
 }
 
@@ -238,6 +268,31 @@ fn ask_list(file: &[u8], bytes: usize) -> Answer {
     Answer::List {
         number: 0,
         length: text.len(),
+        output,
+    }
+}
+
+fn ask_text_in(settings: Settings, text: &[u8], bytes: usize) -> Answer {
+    let mut output = lent_bytes(bytes);
+    let answer = oracle::text_in(settings, text, &mut output);
+    let (number, line) = match answer {
+        Ok(_) => (0, 0),
+        Err(refused) => (refused.refusal.number(), refused.line),
+    };
+    Answer::TextIn {
+        number,
+        length: answer.unwrap_or_default(),
+        line,
+        output,
+    }
+}
+
+fn ask_text_out(file: &[u8], bytes: usize) -> Answer {
+    let mut output = lent_bytes(bytes);
+    let answer = oracle::text_out(file, &mut output);
+    Answer::TextOut {
+        number: number(&answer),
+        length: answer.unwrap_or_default(),
         output,
     }
 }

@@ -1,5 +1,5 @@
 //! Streams of calls for comparing two builds of the document "The intended
-//! build and its rules": random ones, built ones and link files.
+//! build and its rules": random ones, built ones, link files and texts.
 //!
 //! Everything is drawn from a seed, so the same seed gives the same calls
 //! everywhere. A stream is an iterator or a `Vec` of [`Call`]; [`ask`] puts a
@@ -20,6 +20,7 @@ pub mod files;
 pub mod hops;
 mod random;
 mod scene;
+pub mod texts;
 pub mod touching;
 
 pub use call::{ask, lent_bytes, lent_places, Answer, Call, LISTING_BYTES, MOST_LOG_PLACES};

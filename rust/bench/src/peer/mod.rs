@@ -7,6 +7,7 @@ mod crossing;
 mod forest;
 mod listing;
 mod scratch;
+mod text;
 mod time;
 mod trail;
 
@@ -16,6 +17,7 @@ use forest::{every, Forest, Labelled, CELLS};
 use kerb::calls::{ChainAnswer, Clock, JoinedAnswer};
 use kerb::{Settings, CHAIN_PLACES, LOG_PLACES};
 pub use listing::list;
+pub use text::{text_in, text_out};
 
 /// Places of a chunk's half in the counts and in the log, and links of a place.
 const PLACES: usize = 16;

@@ -58,9 +58,11 @@ pub fn ask(state: &mut State, call: &Call) -> Answer {
                 lent,
             }
         }
-        Call::Read { .. } | Call::Write { .. } | Call::List { .. } => {
-            unreachable!("a call without a book")
-        }
+        Call::Read { .. }
+        | Call::Write { .. }
+        | Call::List { .. }
+        | Call::TextIn { .. }
+        | Call::TextOut { .. } => unreachable!("a call without a book"),
     }
 }
 

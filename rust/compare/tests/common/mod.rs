@@ -120,3 +120,15 @@ pub fn listing_book() -> Lockstep {
     }
     books
 }
+
+/// Every choice of yes or no for so many faults.
+pub fn all_sets<const N: usize>() -> Vec<[bool; N]> {
+    let set = |bits: u32| {
+        let mut faults = [false; N];
+        for (place, fault) in faults.iter_mut().enumerate() {
+            *fault = bits >> place & 1 == 1;
+        }
+        faults
+    };
+    (0..1 << N).map(set).collect()
+}
