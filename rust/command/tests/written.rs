@@ -4,9 +4,10 @@ mod common;
 
 use common::{command, complains, kerb, ran, sample, through_a_shell, to_file, word, Ran};
 use std::fs::{self, File, Permissions};
-use std::os::unix::fs::{symlink, PermissionsExt};
+use std::io::Read;
+use std::os::unix::fs::{symlink, FileTypeExt, PermissionsExt};
 use std::path::{Path, PathBuf};
-use std::process::Stdio;
+use std::process::{Command, Stdio};
 
 const LIST: &str = "samples/document.txt";
 const FILE: &str = "samples/document.kerb";
@@ -98,7 +99,6 @@ fn a_file_that_cannot_be_written_leaves_nothing() {
         (at("new/"), "Not a directory"),
         (at("."), "Is a directory"),
         ("samples/README.md/list.kerb".to_string(), "Not a directory"),
-        ("/dev/full".to_string(), "No space left on device"),
         (String::new(), "No such file"),
     ] {
         let words = format!("kerb: {path} cannot be written: {why}");
@@ -122,7 +122,7 @@ fn a_file_that_cannot_be_written_leaves_nothing() {
     assert_eq!(names(&folder), ["long.txt", "old.kerb"]);
 }
 
-/// A symbolic link, who may read a file, a device, and a file that has the name of the one beside.
+/// A symbolic link, who may read a file, a pipe, and a file that has the name of the one beside.
 #[test]
 fn what_is_there_stays_what_it_is() {
     let folder = folder("kinds");
@@ -136,10 +136,19 @@ fn what_is_there_stays_what_it_is() {
     let mode = fs::metadata(&file).expect("the file").permissions().mode();
     assert_eq!(mode & 0o777, 0o640);
 
-    assert_eq!(kerb(&to_file(&[LIST, "-o", "/dev/null"])).status, 0);
-    assert!(!Path::new("/dev/null").is_file());
-    let ran = kerb(&["to-text", FILE, "-o", "/dev/stdout"]);
-    assert_eq!(ran.out.as_bytes(), sample("document.txt"));
+    let pipe = folder.join("pipe");
+    let made = Command::new("mkfifo").arg(&pipe).status();
+    assert!(made.expect("mkfifo").success());
+    let mut end = File::options()
+        .read(true)
+        .write(true)
+        .open(&pipe)
+        .expect("its end");
+    assert_eq!(kerb(&to_file(&[LIST, "-o", word(&pipe)])).status, 0);
+    assert!(fs::metadata(&pipe).expect("the pipe").file_type().is_fifo());
+    let mut bytes = [0; 64];
+    end.read_exact(&mut bytes).expect("what was written");
+    assert_eq!(bytes[..], sample("document.kerb"));
 
     let before = format!("echo other >'{}'/.kerb-$$-0;", folder.display());
     let ran = through_a_shell(&before, "", &to_file(&[LIST, "-o", word(&file)]));
@@ -148,7 +157,7 @@ fn what_is_there_stays_what_it_is() {
         panic!("the folder is empty")
     };
     assert_eq!(read(&folder.join(other)), b"other\n");
-    assert_eq!(rest, ["link.kerb", "list.kerb"]);
+    assert_eq!(rest, ["link.kerb", "list.kerb", "pipe"]);
 }
 
 #[test]
