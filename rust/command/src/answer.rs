@@ -1,54 +1,91 @@
 //! From a question to the text and the status of its answer.
 
-use crate::args::{Input, Question, Request};
+use crate::args::{Input, Output, Question, Request};
 use crate::recording::Recording;
 use crate::trouble::{About, Refused, Trouble};
-use crate::{json, standard, words};
+use crate::{json, standard, text, words};
 use kerb::{Mounting, Refusal};
 use std::fs::File;
 use std::io::{self, IsTerminal, Read};
 
-/// What goes to standard output, and the status: 0 for done, 1 for an answer "no".
+/// What goes out and where to, and the status: 0 for done, 1 for an answer "no".
 pub struct Answer {
-    pub text: String,
+    pub bytes: Vec<u8>,
+    pub to: Output,
+    /// What is said on standard error once the answer is written.
+    pub aside: String,
     pub status: u8,
+}
+
+impl Answer {
+    /// An answer on standard output.
+    fn of(bytes: impl Into<Vec<u8>>) -> Answer {
+        Answer {
+            bytes: bytes.into(),
+            to: Output::Standard,
+            aside: String::new(),
+            status: 0,
+        }
+    }
 }
 
 pub fn answer(Request { question, as_json }: Request) -> Result<Answer, Trouble> {
     match question {
-        Question::Help(text) => done(text.to_string()),
-        Question::Version => done(words::version()),
-        Question::List(input) => list(&bytes(&input)?, as_json),
+        Question::Help(text) => Ok(Answer::of(text)),
+        Question::Version => Ok(Answer::of(words::version())),
+        Question::List(input) => list(&recording(&input)?, as_json),
         Question::Why {
             input,
             one,
             other,
             at,
         } => {
-            let recording = Recording::played(&bytes(&input)?, at).map_err(refused(as_json))?;
+            let recording = Recording::played(&recording(&input)?, at).map_err(refused(as_json))?;
             let why = recording.why(one, other).map_err(refused(as_json))?;
             let said = if as_json { json::why } else { words::why };
             Ok(Answer {
-                text: said(&recording, (one, other), why.as_ref()),
                 status: if why.is_some() { 0 } else { 1 },
+                ..Answer::of(said(&recording, (one, other), why.as_ref()))
             })
         }
         Question::Groups { input, at } => {
-            let recording = Recording::played(&bytes(&input)?, at).map_err(refused(as_json))?;
+            let recording = Recording::played(&recording(&input)?, at).map_err(refused(as_json))?;
             let groups = recording.groups().map_err(refused(as_json))?;
             let said = if as_json { json::groups } else { words::groups };
-            done(said(&recording, &groups))
+            Ok(Answer::of(said(&recording, &groups)))
         }
         Question::Cell { number, mounting } => {
             let mountings = mountings(number, mounting).map_err(refused(as_json))?;
             let said = if as_json { json::cell } else { words::cell };
-            done(said(number, &mountings))
+            Ok(Answer::of(said(number, &mountings)))
+        }
+        Question::ToFile {
+            input,
+            settings,
+            output,
+        } => {
+            if output == Output::Standard && io::stdout().is_terminal() {
+                let words =
+                    "a link file is nothing for a terminal: -o FILE names the file to write";
+                return Err(Trouble::Use(words.to_string()));
+            }
+            let text = bytes(&input, "a text", u64::MAX)?;
+            let file = text::to_file(settings, &text).map_err(refused(as_json))?;
+            Ok(Answer {
+                to: output,
+                ..Answer::of(file)
+            })
+        }
+        Question::ToText { input, output } => {
+            let file = recording(&input)?;
+            let (text, settings) = text::to_text(&file).map_err(refused(as_json))?;
+            Ok(Answer {
+                to: output,
+                aside: words::settings(settings),
+                ..Answer::of(text)
+            })
         }
     }
-}
-
-fn done(text: String) -> Result<Answer, Trouble> {
-    Ok(Answer { text, status: 0 })
 }
 
 /// A refusal, with its line on standard output where JSON is wanted.
@@ -65,10 +102,10 @@ fn list(file: &[u8], as_json: bool) -> Result<Answer, Trouble> {
     if as_json {
         let recording = played.map_err(refused(as_json))?;
         let groups = recording.groups().map_err(refused(as_json))?;
-        return done(json::list(&recording, &groups));
+        return Ok(Answer::of(json::list(&recording, &groups)));
     }
     match played {
-        Ok(_) => done(listing(file)),
+        Ok(_) => Ok(Answer::of(listing(file))),
         Err(refused) => Err(Trouble::Refused(refused, listing(file))),
     }
 }
@@ -95,23 +132,30 @@ fn mountings(number: u16, mounting: Option<u8>) -> Result<Vec<Mounting>, Refused
 }
 
 /// The recording's bytes, at most one more than the longest link file has: enough to tell that a file is too long.
-fn bytes(input: &Input) -> Result<Vec<u8>, Trouble> {
+fn recording(input: &Input) -> Result<Vec<u8>, Trouble> {
+    bytes(input, "a recording", kerb::FILE_BYTES as u64 + 1)
+}
+
+/// The first bytes of what is read, as many as there are up to `most`.
+fn bytes(input: &Input, what: &str, most: u64) -> Result<Vec<u8>, Trouble> {
     let (name, read) = match input {
-        Input::Standard => (
-            "standard input".to_string(),
-            standard::input().and_then(front),
-        ),
-        Input::File(path) => (path.display().to_string(), File::open(path).and_then(front)),
+        Input::Standard => {
+            let front = standard::input().and_then(|from| front(from, what, most));
+            ("standard input".to_string(), front)
+        }
+        Input::File(path) => {
+            let front = File::open(path).and_then(|from| front(from, what, most));
+            (path.display().to_string(), front)
+        }
     };
     read.map_err(|error| Trouble::Unread(name, error))
 }
 
-fn front(from: impl Read + IsTerminal) -> io::Result<Vec<u8>> {
+fn front(from: impl Read + IsTerminal, what: &str, most: u64) -> io::Result<Vec<u8>> {
     if from.is_terminal() {
-        words::reading_a_terminal();
+        words::reading_a_terminal(what);
     }
     let mut bytes = Vec::new();
-    from.take(kerb::FILE_BYTES as u64 + 1)
-        .read_to_end(&mut bytes)?;
+    from.take(most).read_to_end(&mut bytes)?;
     Ok(bytes)
 }

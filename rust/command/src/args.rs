@@ -1,14 +1,22 @@
-//! The command line: which question, of which recording.
+//! The command line: which question, of which recording or text.
 
 use crate::help;
 use crate::trouble::Trouble;
+use kerb::calls::Settings;
 use kerb::{LorryCell, Mounting};
 use std::ffi::{OsStr, OsString};
 use std::path::PathBuf;
 
-/// Where the recording comes from.
+/// Where the recording, or the text, comes from.
 #[derive(Debug, PartialEq)]
 pub enum Input {
+    Standard,
+    File(PathBuf),
+}
+
+/// Where the answer goes.
+#[derive(Debug, PartialEq)]
+pub enum Output {
     Standard,
     File(PathBuf),
 }
@@ -41,6 +49,16 @@ pub enum Question {
         /// The number of a mounting, whether or not there is such a one.
         mounting: Option<u8>,
     },
+    ToFile {
+        input: Input,
+        /// Whether or not they are within their values.
+        settings: Settings,
+        output: Output,
+    },
+    ToText {
+        input: Input,
+        output: Output,
+    },
 }
 
 /// The commands whose answers can be had as JSON.
@@ -51,7 +69,11 @@ const ANSWERS: &[&str] = &["list", "why", "groups", "cell"];
 struct Words {
     plain: Vec<OsString>,
     at: Option<OsString>,
+    n: Option<OsString>,
+    b: Option<OsString>,
     mounting: Option<OsString>,
+    t0: Option<OsString>,
+    output: Option<OsString>,
     json: bool,
     help: bool,
     version: bool,
@@ -64,7 +86,9 @@ pub fn parse(words: impl Iterator<Item = OsString>) -> Result<Request, Trouble> 
         Question::Version
     } else if words.plain.is_empty() {
         if !words.help {
-            return Err(wrong("which command? list, why, groups, cell or help"));
+            return Err(wrong(
+                "which command? list, why, groups, cell, to-file, to-text or help",
+            ));
         }
         Question::Help(help::ALL)
     } else {
@@ -81,7 +105,12 @@ fn question(command: &OsStr, mut words: Words) -> Result<Question, Trouble> {
         return Ok(Question::Help(text));
     }
     takes(name, "--at", words.at.is_some(), &["why", "groups"])?;
-    takes(name, "--mounting", words.mounting.is_some(), &["cell"])?;
+    let mounted = words.mounting.is_some();
+    takes(name, "--mounting", mounted, &["cell", "to-file"])?;
+    takes(name, "--n", words.n.is_some(), &["to-file"])?;
+    takes(name, "--b", words.b.is_some(), &["to-file"])?;
+    takes(name, "--t0", words.t0.is_some(), &["to-file"])?;
+    takes(name, "-o", words.output.is_some(), &["to-file", "to-text"])?;
     takes(name, "--json", words.json, ANSWERS)?;
     let plain = &mut words.plain;
     match name {
@@ -110,6 +139,15 @@ fn question(command: &OsStr, mut words: Words) -> Result<Question, Trouble> {
                 mounting: words.mounting.map(mounting).transpose()?,
             })
         }
+        "to-file" => Ok(Question::ToFile {
+            input: only_input(name, plain)?,
+            settings: settings(words.n, words.b, words.mounting, words.t0)?,
+            output: output(words.output),
+        }),
+        "to-text" => Ok(Question::ToText {
+            input: only_input(name, plain)?,
+            output: output(words.output),
+        }),
         _ => match plain.as_slice() {
             [] => Ok(Question::Help(help::ALL)),
             [about] => Ok(Question::Help(known(about)?.1)),
@@ -143,7 +181,11 @@ fn sorted(mut all: impl Iterator<Item = OsString>) -> Result<Words, Trouble> {
             ("--version" | "-V", None) => words.version = true,
             ("--json", None) => words.json = true,
             ("--at", _) => once(&mut words.at, name, joined.or_else(|| all.next()))?,
+            ("--n", _) => once(&mut words.n, name, joined.or_else(|| all.next()))?,
+            ("--b", _) => once(&mut words.b, name, joined.or_else(|| all.next()))?,
             ("--mounting", _) => once(&mut words.mounting, name, joined.or_else(|| all.next()))?,
+            ("--t0", _) => once(&mut words.t0, name, joined.or_else(|| all.next()))?,
+            ("-o", None) => once(&mut words.output, name, all.next())?,
             _ => return Err(wrong(&format!("there is no option {text}"))),
         }
     }
@@ -166,7 +208,7 @@ fn takes(command: &str, option: &str, given: bool, by: &[&str]) -> Result<(), Tr
     Err(wrong(&format!("{command} takes no {option}")))
 }
 
-/// The one word that is left, which names the recording; none, or `-`, is standard input.
+/// The one word that is left, which names the file to read; none, or `-`, is standard input.
 fn only_input(command: &str, plain: &mut Vec<OsString>) -> Result<Input, Trouble> {
     let word = plain.pop();
     if !plain.is_empty() {
@@ -175,6 +217,43 @@ fn only_input(command: &str, plain: &mut Vec<OsString>) -> Result<Input, Trouble
     Ok(match word {
         Some(name) if name != "-" => Input::File(name.into()),
         _ => Input::Standard,
+    })
+}
+
+/// The value of `-o`; none, or `-`, is standard output.
+fn output(word: Option<OsString>) -> Output {
+    match word {
+        Some(name) if name != "-" => Output::File(name.into()),
+        _ => Output::Standard,
+    }
+}
+
+/// The settings, all four: none has a default.
+fn settings(
+    n: Option<OsString>,
+    b: Option<OsString>,
+    mounted: Option<OsString>,
+    t0: Option<OsString>,
+) -> Result<Settings, Trouble> {
+    let given = [
+        ("--n", n.is_some()),
+        ("--b", b.is_some()),
+        ("--mounting", mounted.is_some()),
+        ("--t0", t0.is_some()),
+    ];
+    let (Some(n), Some(b), Some(mounted), Some(t0)) = (n, b, mounted, t0) else {
+        let missing = given.iter().filter(|(_, given)| !given);
+        let names: Vec<&str> = missing.map(|(name, _)| *name).collect();
+        let names = names.join(", ");
+        return Err(wrong(&format!(
+            "to-file wants all four settings; missing: {names}"
+        )));
+    };
+    Ok(Settings {
+        n: slides(&n)?,
+        b: slide_length(&b)?,
+        mounting: mounting(mounted)?,
+        t0: tick(t0)?,
     })
 }
 
@@ -202,6 +281,18 @@ fn tick(word: OsString) -> Result<u32, Trouble> {
         let (word, most) = (word.to_string_lossy(), u32::MAX);
         wrong(&format!("{word} is no tick: ticks go from 0 to {most}"))
     })
+}
+
+/// n. A number beyond 8 bits is put to the library as the largest that it takes, which it refuses.
+fn slides(word: &OsStr) -> Result<u8, Trouble> {
+    let number = number(word, "n")?.unwrap_or(u64::MAX);
+    Ok(u8::try_from(number).unwrap_or(u8::MAX))
+}
+
+/// B. A number beyond 32 bits is put to the library as 0, the one that it refuses.
+fn slide_length(word: &OsStr) -> Result<u32, Trouble> {
+    let number = number(word, "B")?.unwrap_or(u64::MAX);
+    Ok(u32::try_from(number).unwrap_or(0))
 }
 
 /// 1 or plain, 2 or mirrored. Other numbers are the library's to refuse.

@@ -9,6 +9,8 @@ pub fn of(name: &OsStr) -> Option<(&'static str, &'static str)> {
         ("why", WHY),
         ("groups", GROUPS),
         ("cell", CELL),
+        ("to-file", TO_FILE),
+        ("to-text", TO_TEXT),
         ("help", ALL),
     ];
     commands.into_iter().find(|(command, _)| name == *command)
@@ -21,14 +23,19 @@ kerb: ask a recording (a link file) what the panel saw as one thing, and why
   kerb why [FILE] ONE OTHER            the chain that joins two cells, and until when it does
   kerb groups [FILE]                   each group with all its cells, and until when it holds
   kerb cell N                          ring and sector of a cell, the unit's and the lorry's number
+  kerb to-file SETTINGS [TEXT]         a text list of links brought into a link file
+  kerb to-text [FILE]                  a link file put out as a text list, with its settings
   kerb help [COMMAND]                  this page, or that of a command
   kerb --version
 
   --at TICK        why, groups: as it was at that tick
-  --mounting M     cell: how the unit is fitted, 1 (plain) or 2 (mirrored)
-  --json           the answer as one line of JSON
+  --mounting M     cell, to-file: how the unit is fitted, 1 (plain) or 2 (mirrored)
+  --n, --b, --t0   to-file: the other settings; all four are wanted
+  -o FILE          to-file, to-text: the file to write, whole or not at all
+  --json           list, why, groups, cell: the answer as one line of JSON
 
-No FILE, or -, is standard input. Cells are numbered as the lorry has them.
+No FILE or TEXT, or -, is standard input. Cells are numbered as the lorry has them, in text lists
+as the unit has them.
 
 Status: 0 done, or joined; 1 not joined; 2 refused, with the number and its meaning on standard
 error; 3 wrong use, or a file that cannot be read or written.
@@ -72,4 +79,26 @@ kerb cell N [--mounting M] [--json]
 
 Ring and sector of cell N; which cell of the lorry the unit's N is, and which of the unit the lorry's N
 is. M is 1 (plain) or 2 (mirrored). No mounting is the default: without one both are told.
+";
+
+const TO_FILE: &str = "\
+kerb to-file --n N --b B --mounting M --t0 T [TEXT] [-o FILE]
+
+Brings a text list into a link file, which goes to FILE or to standard output. Each line of the text is
+a link: two cells, in the unit's numbers, and a tick, in decimal, one blank between, a line feed after
+each. No sign, no leading zero, at most 8,000 lines.
+
+The text does not have the settings, and none has a default: N slides of B ticks in the window, the
+mounting M, 1 (plain) or 2 (mirrored), the first tick T. kerb to-text prints those of a link file.
+
+A line that breaks the form is refused with number 13, its own number, counted from 0, and what is
+wrong with it. FILE is written whole or not at all: on a refusal it stays as it was.
+";
+
+const TO_TEXT: &str = "\
+kerb to-text [FILE] [-o TEXT]
+
+Puts a link file out as a text list, which goes to TEXT or to standard output: of each record the two
+cells, in the unit's numbers, and the tick. The settings go to standard error, as kerb to-file takes
+them: with these the text gives the same file again.
 ";

@@ -1,31 +1,37 @@
-//! `kerb`: asks a recording, that is a link file, what the panel's book thought and why. It parses its arguments and prints what
-//! the proved library gives; no rule is worked out here.
+//! `kerb`: asks a recording, that is a link file, what the panel's book thought and why, and turns text lists into link files and
+//! back. It parses its arguments and prints what the proved library gives; no rule is worked out here, but for the words that tell
+//! what is wrong with a line of a text (`text`).
 //!
-//! Answers go to standard output, everything else to standard error. The status is 0 for done, 1 for an answer "no", 2 for a
-//! refusal and 3 for wrong use, or a file that cannot be read or written.
+//! Answers go to standard output or to the file of `-o`, everything else to standard error. The status is 0 for done, 1 for an
+//! answer "no", 2 for a refusal and 3 for wrong use, or a file that cannot be read or written.
 
 mod answer;
 mod args;
 mod help;
 mod json;
+mod output;
 mod recording;
 mod standard;
+mod text;
 mod trouble;
 mod words;
 
+use args::Output;
 use std::process::ExitCode;
-use trouble::Trouble;
 
 fn main() -> ExitCode {
     let outcome = args::parse(std::env::args_os().skip(1)).and_then(answer::answer);
-    let written = standard::print(match &outcome {
-        Ok(answer) => &answer.text,
-        Err(trouble) => trouble.on_standard_output(),
-    });
+    let written = match &outcome {
+        Ok(answer) => output::write(&answer.to, &answer.bytes),
+        Err(trouble) => output::write(&Output::Standard, trouble.on_standard_output().as_bytes()),
+    };
     let status = match (written, outcome) {
-        (Err(error), _) => Trouble::Unwritten(error).complain(),
+        (Err(unwritten), _) => unwritten.complain(),
         (Ok(()), Err(trouble)) => trouble.complain(),
-        (Ok(()), Ok(answer)) => answer.status,
+        (Ok(()), Ok(answer)) => {
+            words::aside(&answer.aside);
+            answer.status
+        }
     };
     ExitCode::from(status)
 }

@@ -41,13 +41,13 @@ pub fn input() -> io::Result<io::Stdin> {
     Ok(io::stdin())
 }
 
-/// Writes all of the text to standard output, or says why not.
-pub fn print(text: &str) -> io::Result<()> {
-    if text.is_empty() {
+/// Writes all of it to standard output, or says why not.
+pub fn print(bytes: &[u8]) -> io::Result<()> {
+    if bytes.is_empty() {
         return Ok(());
     }
     unless_closed(&OUTPUT_OPEN)?;
     let mut out = io::stdout().lock();
-    out.write_all(text.as_bytes())?;
+    out.write_all(bytes)?;
     out.flush()
 }

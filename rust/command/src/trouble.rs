@@ -6,19 +6,23 @@ use std::fmt;
 use std::io::{self, Write};
 
 /// What a refusal is about.
-#[derive(Clone, Copy, Debug)]
+#[derive(Clone, Debug)]
 pub enum About {
     File,
     /// A record of the file, by its place from 0.
     Record(u32),
     /// The tick of `--at`.
     Tick(u32),
-    /// A cell or a mounting of the command line.
+    /// A cell or a setting of the command line.
     CommandLine,
+    /// A text list, and what is wrong with it.
+    Text(String),
+    /// A line of a text list, by its number from 0, and what is wrong with it.
+    Line(u64, String),
 }
 
 /// A number that the library gave, and what for.
-#[derive(Clone, Copy, Debug)]
+#[derive(Debug)]
 pub struct Refused {
     pub refusal: Refusal,
     pub about: About,
@@ -27,7 +31,10 @@ pub struct Refused {
 impl Refused {
     /// A refusal of this.
     pub fn of(about: About) -> impl Fn(Refusal) -> Refused {
-        move |refusal| Refused { refusal, about }
+        move |refusal| Refused {
+            refusal,
+            about: about.clone(),
+        }
     }
 
     pub fn json(&self) -> Json {
@@ -35,7 +42,7 @@ impl Refused {
         match self.about {
             About::Record(place) => fields.push(("record", Json::from(place))),
             About::Tick(tick) => fields.push(("tick", Json::from(tick))),
-            About::File | About::CommandLine => (),
+            _ => (),
         }
         fields.push(("meaning", Json::Text(self.refusal.meaning())));
         Json::Object(fields)
@@ -45,13 +52,15 @@ impl Refused {
 impl fmt::Display for Refused {
     fn fmt(&self, f: &mut fmt::Formatter) -> fmt::Result {
         write!(f, "refused {} ", self.refusal.number())?;
-        match self.about {
-            About::File => write!(f, "in the file")?,
-            About::Record(place) => write!(f, "at record {place}")?,
-            About::Tick(tick) => write!(f, "at tick {tick}")?,
-            About::CommandLine => write!(f, "on the command line")?,
+        let meaning = self.refusal.meaning();
+        match &self.about {
+            About::File => write!(f, "in the file: {meaning}"),
+            About::Record(place) => write!(f, "at record {place}: {meaning}"),
+            About::Tick(tick) => write!(f, "at tick {tick}: {meaning}"),
+            About::CommandLine => write!(f, "on the command line: {meaning}"),
+            About::Text(fault) => write!(f, "in the text: {fault}"),
+            About::Line(line, fault) => write!(f, "at line {line} (counted from 0): {fault}"),
         }
-        write!(f, ": {}", self.refusal.meaning())
     }
 }
 
@@ -62,8 +71,8 @@ pub enum Trouble {
     Use(String),
     /// The file, by its name, cannot be read.
     Unread(String, io::Error),
-    /// Standard output cannot be written.
-    Unwritten(io::Error),
+    /// The file, or standard output, cannot be written.
+    Unwritten(String, io::Error),
     /// The library refused; what goes to standard output all the same.
     Refused(Refused, String),
 }
@@ -92,9 +101,7 @@ impl fmt::Display for Trouble {
         match self {
             Trouble::Use(what) => write!(f, "kerb: {what}"),
             Trouble::Unread(name, error) => write!(f, "kerb: {name} cannot be read: {error}"),
-            Trouble::Unwritten(error) => {
-                write!(f, "kerb: standard output cannot be written: {error}")
-            }
+            Trouble::Unwritten(name, error) => write!(f, "kerb: {name} cannot be written: {error}"),
             Trouble::Refused(refused, _) => write!(f, "{refused}"),
         }
     }

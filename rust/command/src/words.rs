@@ -1,7 +1,7 @@
 //! The answers in words.
 
 use crate::recording::{Groups, Moment, Recording, Why};
-use kerb::{LorryCell, Mounting, UnitCell};
+use kerb::{LorryCell, Mounting, Settings, UnitCell};
 use std::io::Write;
 
 pub fn version() -> String {
@@ -9,12 +9,23 @@ pub fn version() -> String {
     format!("kerb {command}, with version {library} of the library\n")
 }
 
+/// Says something beside the answer, on standard error, where that can be written.
+pub fn aside(text: &str) {
+    let _ = write!(std::io::stderr(), "{text}");
+}
+
 /// Somebody who forgot the file name would otherwise wait for ever.
-pub fn reading_a_terminal() {
-    let _ = writeln!(
-        std::io::stderr(),
-        "kerb: reading a recording from the terminal; kerb help says how to name a file"
-    );
+pub fn reading_a_terminal(what: &str) {
+    aside(&format!(
+        "kerb: reading {what} from the terminal; kerb help says how to name a file\n"
+    ));
+}
+
+/// The settings as `kerb to-file` takes them.
+pub fn settings(settings: Settings) -> String {
+    let Settings { t0, b, n, mounting } = settings;
+    let mounting = mounting.number();
+    format!("settings: --n {n} --b {b} --mounting {mounting} --t0 {t0}\n")
 }
 
 pub fn why(
@@ -101,7 +112,7 @@ fn name(mounting: Mounting) -> &'static str {
     }
 }
 
-fn counted(number: usize, of: &str) -> String {
+pub fn counted(number: usize, of: &str) -> String {
     format!("{number} {of}{}", if number == 1 { "" } else { "s" })
 }
 

@@ -2,20 +2,12 @@
 
 mod common;
 
-use common::{command, kerb, kerb_fed, ran, recording, started, words, Ran};
+use common::{command, complains, kerb, kerb_fed, ran, recording, started, through_a_shell};
 use kerb::{Mounting, Settings};
 use std::fs::File;
 use std::io::Write;
-use std::process::Command;
 
 const LIFT: &str = "samples/tail_lift_and_walker.kerb";
-
-/// The status, nothing on standard output, and a message with these words.
-fn complains(ran: &Ran, status: i32, words: &str) {
-    assert_eq!(ran.status, status, "{ran:?}");
-    assert_eq!(ran.out, "", "{ran:?}");
-    assert!(ran.err.contains(words), "{words}: {ran:?}");
-}
 
 #[test]
 fn wrong_use_is_status_3() {
@@ -36,6 +28,10 @@ fn wrong_use_is_status_3() {
             &["groups", LIFT, "--mounting", "1"],
             "groups takes no --mounting",
         ),
+        (&["cell", "5", "--n", "3"], "cell takes no --n"),
+        (&["to-text", LIFT, "--b", "10"], "to-text takes no --b"),
+        (&["list", LIFT, "--t0", "0"], "list takes no --t0"),
+        (&["list", LIFT, "-o", "x"], "list takes no -o"),
         (&["help", "--json"], "help takes no --json"),
         (&["groups", LIFT, "--at"], "--at wants a value"),
         (
@@ -113,7 +109,7 @@ fn numbers_out_of_range_are_refused() {
 
 #[test]
 fn what_cannot_be_read_is_status_3() {
-    for command in ["list", "groups"] {
+    for command in ["list", "groups", "to-text"] {
         complains(
             &kerb(&[command, "no/such.kerb"]),
             3,
@@ -148,7 +144,7 @@ fn what_cannot_be_read_is_status_3() {
         "standard input cannot be read: Is a directory",
     );
     complains(
-        &through_a_shell("<&-", &["list"]),
+        &through_a_shell("", "<&-", &["list"]),
         3,
         "standard input cannot be read: it is closed",
     );
@@ -219,6 +215,9 @@ fn refused_files_are_status_2_with_the_number_in_words() {
         assert!(ran.err.starts_with(words), "{words}: {}", ran.err);
         complains(&kerb_fed(&["groups"], &file), 2, words);
         complains(&kerb_fed(&["why", "1", "2"], &file), 2, words);
+        if line.ends_with("file") {
+            complains(&kerb_fed(&["to-text"], &file), 2, words);
+        }
 
         let ran = kerb_fed(&["groups", "--json"], &file);
         let number = line.split(' ').nth(1).expect("the number");
@@ -260,6 +259,7 @@ fn what_cannot_be_written_is_status_3() {
         &why,
         &["groups", LIFT],
         &["cell", "5"],
+        &["to-text", LIFT],
         &["help"],
         &["--version"],
     ] {
@@ -274,7 +274,7 @@ fn what_cannot_be_written_is_status_3() {
             "standard output cannot be written: No space left on device",
         );
         complains(
-            &through_a_shell(">&-", args),
+            &through_a_shell("", ">&-", args),
             3,
             "standard output cannot be written: it is closed",
         );
@@ -303,17 +303,6 @@ fn the_status_stands_without_standard_error() {
             .expect("/dev/full");
         let output = command(args).stderr(full).output().expect("it starts");
         assert_eq!(output.status.code(), Some(status));
-        assert_eq!(through_a_shell("2>&-", args).status, status);
+        assert_eq!(through_a_shell("", "2>&-", args).status, status);
     }
-}
-
-/// Runs it from a shell, for a redirection that only a shell can make.
-fn through_a_shell(redirection: &str, args: &[&str]) -> Ran {
-    let mut shell = Command::new("sh");
-    shell
-        .arg("-c")
-        .arg(format!("exec \"$@\" {redirection}"))
-        .arg("sh");
-    shell.args(words()).args(args).current_dir(common::root());
-    ran(shell.output().expect("it starts"))
 }

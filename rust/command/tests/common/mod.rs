@@ -43,6 +43,13 @@ pub fn ran(output: Output) -> Ran {
     }
 }
 
+/// The status, nothing on standard output, and a message with these words.
+pub fn complains(ran: &Ran, status: i32, words: &str) {
+    assert_eq!(ran.status, status, "{ran:?}");
+    assert_eq!(ran.out, "", "{ran:?}");
+    assert!(ran.err.contains(words), "{words}: {ran:?}");
+}
+
 /// Runs it with nothing on standard input.
 pub fn kerb(args: &[&str]) -> Ran {
     let mut command = command(args);
@@ -59,10 +66,26 @@ pub fn started(args: &[&str]) -> Child {
 
 /// Runs it with these bytes on standard input.
 pub fn kerb_fed(args: &[&str], bytes: &[u8]) -> Ran {
+    ran(output_fed(args, bytes))
+}
+
+/// The same, where what it prints is not text.
+pub fn output_fed(args: &[&str], bytes: &[u8]) -> Output {
     let mut child = started(args);
     // it stops reading where a file is too long, and the rest then finds no reader
     let _ = child.stdin.take().expect("its input").write_all(bytes);
-    ran(child.wait_with_output().expect("its output"))
+    child.wait_with_output().expect("its output")
+}
+
+/// Runs it from a shell, for what only a shell can do: what comes before, and redirections.
+pub fn through_a_shell(before: &str, redirection: &str, args: &[&str]) -> Ran {
+    let mut shell = Command::new("sh");
+    shell
+        .arg("-c")
+        .arg(format!("{before} exec \"$@\" {redirection}"))
+        .arg("sh");
+    shell.args(words()).args(args).current_dir(root());
+    ran(shell.output().expect("it starts"))
 }
 
 pub fn recording(settings: Settings, links: &[(u32, u16, u16)]) -> Vec<u8> {
@@ -71,4 +94,21 @@ pub fn recording(settings: Settings, links: &[(u32, u16, u16)]) -> Vec<u8> {
     let mut file = vec![0; records.len() + ENDING_BYTES];
     kerb::write(settings, &records, &mut file).expect("good settings");
     file
+}
+
+pub fn sample(name: &str) -> Vec<u8> {
+    std::fs::read(root().join("samples").join(name)).expect("the sample")
+}
+
+/// `to-file`, with settings that are in order.
+pub const TO_FILE: &[&str] = &["to-file", "--n=3", "--b=10", "--mounting=1", "--t0=0"];
+
+/// `TO_FILE` and these words after it.
+pub fn to_file<'a>(more: &[&'a str]) -> Vec<&'a str> {
+    [TO_FILE, more].concat()
+}
+
+/// A path as a word of a command line.
+pub fn word(path: &Path) -> &str {
+    path.to_str().expect("text")
 }
