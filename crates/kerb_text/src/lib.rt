@@ -1,7 +1,8 @@
 // The interface for C and Rust, continued: text lists into link files and out of them. What each call gives, and what the output holds at
 // the end, is what its definition says, for every input.
 use settings::Settings;
-use text_list::{TextInAnswer, TextOutAnswer};
+use text_list::TextInAnswer;
+use text_list::TextOutAnswer;
 ghost use Rattle.text_list.specs.Call.{textInOf, GivesTextIn, textOutOf, GivesTextOut};
 
 // The link file of these settings and of a text's links, at the front of the output.
