@@ -420,7 +420,7 @@ KERB_LOOK_AT struct kerb_record_answer kerb_unpack(const uint8_t *records, size_
  * A link file of these settings and the links of a text, a record for each line: 8m + 24 bytes at the front of the output; no byte
  * beyond is touched.
  * Refuses, in this order: 13 (the first line that breaks the form, past the 8,000th too), 2, 9 (more than 8,000 lines), 6 (the
- * output). Stack: 1 KB.
+ * output). Stack: 65 KB.
  */
 KERB_LOOK_AT struct kerb_text_in_answer kerb_text_in(struct kerb_settings settings, const uint8_t *text, size_t text_bytes,
                                                      uint8_t *out, size_t out_bytes);

@@ -30,9 +30,26 @@ pub decimal-more : (x : ℕ) → 10 ≤ x → decimal x ≡ decimal (x / 10) ++ 
 unfolding decimal digits
 decimal-more x h = rw (le-ltb x 10 h, digits-enough x (suc (x / 10)) (x / 10) (omega arith) (omega arith))
 
+-- the digit before the last, as a byte
+abbrev pub tens : ℕ → ℕ
+tens x = lastDigit (x / 10)
+
+pub decimal-two : (x : ℕ) → 10 ≤ x → x < 100 → decimal x ≡ tens x ∷ lastDigit x ∷ []
+decimal-two x h l = decimal-more x h ∙ rw (decimal-one (x / 10) (omega arith))
+
+-- the digits before the last two are those of a hundredth
+pub decimal-hundred : (x : ℕ) → 100 ≤ x → decimal x ≡ decimal (x / 100) ++ tens x ∷ lastDigit x ∷ []
+decimal-hundred x h =
+    let hundredth : x / 10 / 10 ≡ x / 100 = omega arith in
+    decimal-more x (omega arith)
+    ∙ rw (decimal-more (x / 10) (omega arith), hundredth) (append-assoc (decimal (x / 100)) (tens x ∷ []) (lastDigit x ∷ []))
+
 -- a value of two or more digits is one longer than a tenth of it
 pub one-longer : (x : ℕ) → 10 ≤ x → length (decimal x) ≡ length (decimal (x / 10)) + 1
 one-longer x h = ap length (decimal-more x h) ∙ length-append (decimal (x / 10)) (lastDigit x ∷ [])
+
+pub two-longer : (x : ℕ) → 100 ≤ x → length (decimal x) ≡ length (decimal (x / 100)) + 2
+two-longer x h = ap length (decimal-hundred x h) ∙ length-append (decimal (x / 100)) (tens x ∷ lastDigit x ∷ [])
 
 pub decimal-short : (d x : ℕ) → x < 10 ^ suc d → length (decimal x) ≤ suc d
 decimal-short zero x h = rw (decimal-one x h) (omega arith)

@@ -35,7 +35,15 @@ pub fn decimal_length(x: u64) -> usize
     digits
 }
 
-// A value in decimal: the digits before the last are those of a tenth of it.
+fn put_pair(first: u8, second: u8, out: &mut [u8], at: usize) -> usize
+    requires { ⌜ at + 2 ≤ length (now out) ⌝ }
+    ensures { λ r. ⌜ WrittenAt (first ∷ second ∷ []) at (now (out .entry)) r (now (out .exit)) ⌝ }
+{
+    let next = put_byte(first, out, at);
+    put_byte(second, out, next)
+}
+
+// A value in decimal: the digits before the last two are those of a hundredth of it.
 pub fn put_decimal(x: u64, out: &mut [u8], at: usize) -> usize
     requires { ⌜ at + length (decimal x) ≤ length (now out) ⌝ }
     ensures { λ r. ⌜ WrittenAt (decimal x) at (now (out .entry)) r (now (out .exit)) ⌝ }
@@ -44,8 +52,12 @@ pub fn put_decimal(x: u64, out: &mut [u8], at: usize) -> usize
     if x < 10 {
         return put_byte(last, out, at);
     }
-    let end = put_decimal(x / 10, out, at);
-    put_byte(last, out, end)
+    let tens = (48 + x / 10 % 10) as u8;
+    if x < 100 {
+        return put_pair(tens, last, out, at);
+    }
+    let end = put_decimal(x / 100, out, at);
+    put_pair(tens, last, out, end)
 }
 
 // A blank and a value.
