@@ -3,7 +3,7 @@
 -- There are three layers, each with its own words, and two relations between them.
 --     history        what the calls say happened: links with their slides, the clock, and the table of numbers (History, of the crate demands)
 --     definitions    what each call makes of a book, its log and whatever is lent, for every input: `ours` (Implementation, of demands)
---     code           the exported routines, as the machine runs them (the crates kerb, kerb_opening, kerb_time, .., kerb_file)
+--     code           the exported routines, as the machine runs them (the crates kerb, kerb_opening, kerb_time, .., kerb_text)
 -- The state that calls leave agrees with the history (Agrees, of demands), and the code gives what the definitions say: its contracts say
 -- it (Pledges, of the crate pledges), and it meets them (Routines). A demand is stated of the definitions, over any implementation, so that
 -- fakes can be held against it (Demands, of demands; Fakes, of demands_fakes), the listing's over ours (Listed, of demands_listing); and of
