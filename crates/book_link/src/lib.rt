@@ -86,7 +86,7 @@ fn link_number(clock: Clock, held: u16, log: &[u16], tick: u32, one: u16, other:
     0
 }
 
-// The same for a book that is known to be in order: number 1 is not asked. The time moves first, and only for a link that is
+// The link call for a book that is known to be in order: number 1 is not asked. The time moves first, and only for a link that is
 // taken.
 pub fn link_in_order(
     tick: u32,
