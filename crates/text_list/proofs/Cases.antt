@@ -5,7 +5,6 @@ use mathlib.Core.List.{List, [], _∷_, _++_, map}
 use Prim.Native.Nat.{ℕ}
 use lib.ListN.{replicate}
 use Rattle.numbers.specs.Checks.{firstOf}
-use Rattle.settings.specs.declared.Settings.{Settings}
 use Rattle.text.specs.Text.{digits, decimal, fields}
 use Rattle.file.specs.Layout.{littleEndian, fromLittleEndian, recordBytes, endingBytes, settingsOf, fileOf}
 use Rattle.file.specs.Format.{same, recordsFit, lengthFits, lettersStand, offsetAgrees, padsZero, readNumber, readOf}
