@@ -1,7 +1,7 @@
 /*
  * The lamp of one blind spot, in C. The unit is fitted mirrored: it sends links in its own numbers, and the lorry's bodywork is a
- * cell in the lorry's. A thing that hangs together with the bodywork leaves the lamp dark; anything else lights it, and so does
- * a number: a panel that does not know lights the lamp.
+ * cell in the lorry's, where sector s of the unit is sector (64 - s) mod 64. A thing that hangs together with the bodywork leaves
+ * the lamp dark; anything else lights it, and so does a number: a panel that does not know lights the lamp.
  */
 #include <stdio.h>
 

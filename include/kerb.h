@@ -23,7 +23,8 @@
  *   - the stack has room;
  *   - two threads do not use one book at once, unless both only ask.
  *
- * A book has no padding and no pointer in it: its bytes can be copied, stored over a battery swap and compared.
+ * A book has no padding and no pointer in it: its bytes can be copied, stored over a battery swap and compared. (One of a mirrored
+ * unit that was stored before 0.2.2 has its links at other cells, and is to be opened anew: docs/BOOK.md.)
  */
 #ifndef KERB_H
 #define KERB_H
@@ -347,7 +348,8 @@ KERB_LOOK_AT uint64_t kerb_open_slide(const struct kerb_book *book);
 KERB_LOOK_AT struct kerb_slide_answer kerb_slide_ticks(const struct kerb_book *book, uint64_t slide);
 
 /*
- * CELLS. A number that is no cell, 1024 or more, has no mirror and comes back as it is. Stack: 1 KB each.
+ * CELLS. On a mirrored unit sector s of the unit is sector (64 - s) % 64 of the lorry, in the same ring: 0, dead ahead, and 32,
+ * dead astern, stay. A number that is no cell, 1024 or more, has no mirror and comes back as it is. Stack: 1 KB each.
  */
 
 /* The lorry's number of a cell of the unit: mirrored for KERB_MIRRORED, the same for any other number. */

@@ -1,8 +1,9 @@
 -- Cells and mounting (RULES 1): rings of sectors, and the lorry's number of a unit's cell.
 --
 -- The mirror rule is `mirrorSector`, and nothing else says it. It and `mirrorOver` are shut: only the modules below this one
--- open them. Everyone else goes by the laws (Cell/Laws), which hold of any rule that keeps to the sectors and, taken twice,
--- changes nothing. All is said over the number of sectors of a ring; the unit of RULES 1.1, of 64, comes last.
+-- open them. Everyone else goes by the laws (Cell/Laws), which hold, but for those on the axis, of any rule that keeps to the
+-- sectors and, taken twice, changes nothing. All is said over the number of sectors of a ring; the unit of RULES 1.1, of 64,
+-- comes last.
 pub mod Laws
 pub mod Table
 use Prim.Native.Nat.{ℕ, _+_, _*_, _-_, _/_, _%_}
@@ -31,9 +32,9 @@ ringOf sectors c = c / sectors
 abbrev pub sectorOf : (sectors : ℕ) (cell : Cell) → ℕ
 sectorOf sectors c = c % sectors
 
--- on a mirrored unit sector s of the unit is sector 63 - s of the lorry
+-- on a mirrored unit sector s of the unit is sector (64 - s) mod 64 of the lorry
 pub mirrorSector : (sectors s : ℕ) → ℕ
-mirrorSector sectors s = sectors - 1 - s
+mirrorSector sectors s = (sectors - s) % sectors
 
 -- in the same ring; a number that is no cell stays as it is
 pub mirrorOver : (sectors : ℕ) (cell : Cell) → Cell

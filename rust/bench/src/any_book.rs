@@ -1,7 +1,7 @@
 //! What the benchmark asks of the library and of everything that it is compared with.
 
 use kerb::calls::{ChainAnswer, JoinedAnswer};
-use kerb::Settings;
+use kerb::{Mounting, Settings};
 
 /// A book of links, in one way or another. Each call gives the number of the table (RULES 7), 0 when it was done.
 pub trait AnyBook {
@@ -25,6 +25,16 @@ pub trait AnyBook {
     fn chain(&mut self, one: u16, other: u16, lent: &mut [u16]) -> ChainAnswer;
 }
 
+/// The lorry's number of a unit's cell, for those that are no library: on a mirrored unit sector s is sector (64 - s) mod 64, in
+/// the same ring.
+pub fn lorry_cell(mounting: u8, cell: u16) -> u16 {
+    if mounting != Mounting::Mirrored.number() {
+        return cell;
+    }
+    let sector = cell % 64;
+    cell - sector + (64 - sector) % 64
+}
+
 /// The answer of a refused joined call.
 pub fn joined_refused(number: u8) -> JoinedAnswer {
     JoinedAnswer {
@@ -41,5 +51,21 @@ pub fn chain_refused(number: u8) -> ChainAnswer {
         cells: 0,
         hold: 0,
         number,
+    }
+}
+
+#[cfg(test)]
+mod tests {
+    use super::*;
+
+    /// The workloads have plain units alone, so this is where it would show.
+    #[test]
+    fn cells_are_mirrored_as_the_library_does() {
+        for mounting in [Mounting::Plain, Mounting::Mirrored] {
+            for cell in 0..kerb::CELLS as u16 {
+                let ours = kerb::calls::lorry_cell(mounting.number(), cell);
+                assert_eq!(lorry_cell(mounting.number(), cell), ours);
+            }
+        }
     }
 }

@@ -1,6 +1,7 @@
 //! The window as a plain queue of links, for the baselines that keep nothing else: (c) and (d).
 
-use kerb::{Mounting, Settings};
+use crate::any_book::lorry_cell;
+use kerb::Settings;
 use std::collections::VecDeque;
 
 pub const CELLS: usize = 1024;
@@ -89,10 +90,11 @@ impl Window {
 
     /// Stores a link of two of the unit's cells in the open slide.
     pub fn store(&mut self, one: u16, other: u16) -> Link {
+        let mounting = self.settings.mounting.number();
         let link = Link {
             slide: self.open_slide(),
-            one: self.lorry_cell(one),
-            other: self.lorry_cell(other),
+            one: lorry_cell(mounting, one),
+            other: lorry_cell(mounting, other),
         };
         self.links.push_back(link);
         self.stored += 1;
@@ -101,14 +103,6 @@ impl Window {
 
     pub fn links(&self) -> impl DoubleEndedIterator<Item = &Link> {
         self.links.iter()
-    }
-
-    fn lorry_cell(&self, cell: u16) -> u16 {
-        if self.settings.mounting == Mounting::Mirrored {
-            cell ^ 63
-        } else {
-            cell
-        }
     }
 }
 

@@ -79,6 +79,10 @@ kerb cell N [--mounting M] [--json]
 
 Ring and sector of cell N; which cell of the lorry the unit's N is, and which of the unit the lorry's N
 is. M is 1 (plain) or 2 (mirrored). No mounting is the default: without one both are told.
+
+On a mirrored unit sector s of the unit is sector (64 - s) mod 64 of the lorry, in the same ring: 0, dead
+ahead, and 32, dead astern, stay. Recordings hold the unit's numbers, so one from before 0.2.2, when the
+rule was 63 - s, shows the corrected cells when it is played again.
 ";
 
 const TO_FILE: &str = "\

@@ -130,14 +130,14 @@ fn why_finds_the_newest_slide_of_each_link() {
         n: 4,
         mounting: Mounting::Mirrored,
     };
-    // the lorry's 62, 61 and 60; 61-60 is seen in slide 0 and, the other way round, in slide 1
+    // the lorry's 63, 62 and 61; 62-61 is seen in slide 0 and, the other way round, in slide 1
     let links = [(1000, 1, 2), (1005, 2, 3), (1019, 3, 2), (1020, 20, 21)];
-    let ran = kerb_fed(&["why", "62", "60", "--json"], &recording(settings, &links));
+    let ran = kerb_fed(&["why", "63", "61", "--json"], &recording(settings, &links));
     assert_eq!(
         ran.out,
-        "{\"joined\":true,\"one\":62,\"other\":60,\"tick\":1020,\"slide\":2,\
-         \"chain\":[{\"cell\":62,\"ring\":0,\"sector\":62},{\"cell\":61,\"ring\":0,\"sector\":61},{\"cell\":60,\"ring\":0,\"sector\":60}],\
-         \"links\":[{\"one\":62,\"other\":61,\"tick\":1000,\"slide\":0},{\"one\":61,\"other\":60,\"tick\":1019,\"slide\":1}],\
+        "{\"joined\":true,\"one\":63,\"other\":61,\"tick\":1020,\"slide\":2,\
+         \"chain\":[{\"cell\":63,\"ring\":0,\"sector\":63},{\"cell\":62,\"ring\":0,\"sector\":62},{\"cell\":61,\"ring\":0,\"sector\":61}],\
+         \"links\":[{\"one\":63,\"other\":62,\"tick\":1000,\"slide\":0},{\"one\":62,\"other\":61,\"tick\":1019,\"slide\":1}],\
          \"newest\":{\"slide\":0,\"first\":1000,\"last\":1009},\"hold\":1,\"until\":1039}\n"
     );
 }
@@ -196,12 +196,12 @@ fn groups_tells_all_cells() {
 
 #[test]
 fn cell_tells_ring_sector_and_both_numbers() {
-    let ran = kerb(&["cell", "64"]);
+    let ran = kerb(&["cell", "127"]);
     assert_eq!(
         ran.out,
-        "cell 64: ring 1, sector 0\n\
-         mounting 1, plain: the unit's 64 is the lorry's 64 (ring 1, sector 0); the lorry's 64 is the unit's 64\n\
-         mounting 2, mirrored: the unit's 64 is the lorry's 127 (ring 1, sector 63); the lorry's 64 is the unit's 127\n"
+        "cell 127: ring 1, sector 63\n\
+         mounting 1, plain: the unit's 127 is the lorry's 127 (ring 1, sector 63); the lorry's 127 is the unit's 127\n\
+         mounting 2, mirrored: the unit's 127 is the lorry's 65 (ring 1, sector 1); the lorry's 127 is the unit's 65\n"
     );
     for mounting in ["2", "mirrored"] {
         let ran = kerb(&["cell", "1023", "--mounting", mounting, "--json"]);
@@ -209,7 +209,7 @@ fn cell_tells_ring_sector_and_both_numbers() {
         assert_eq!(
             ran.out,
             "{\"cell\":1023,\"ring\":15,\"sector\":63,\"mountings\":[{\"mounting\":2,\
-             \"lorry\":{\"cell\":960,\"ring\":15,\"sector\":0},\"unit\":960}]}\n"
+             \"lorry\":{\"cell\":961,\"ring\":15,\"sector\":1},\"unit\":961}]}\n"
         );
     }
 }

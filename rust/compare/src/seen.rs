@@ -4,7 +4,7 @@
 use crate::crossings::crossings;
 use crate::tally::{names, number, span, Spans, Tally, NUMBERS};
 use crate::ties::has_ties;
-use oracle::{History, Link, Settings};
+use oracle::{History, Link, Settings, MIRRORED, SECTORS};
 use streams::hops::is_hop;
 use streams::touching::far;
 use streams::{Answer, Call};
@@ -89,6 +89,10 @@ pub fn tally() -> Tally {
         (
             "link taken",
             &["new", "repeat", "far", "of a cell with itself"],
+        ),
+        (
+            "end of a link, mirrored",
+            &["dead ahead", "dead astern", "beside the axis"],
         ),
         ("two cells joined", &["yes", "no"]),
         ("their steps", &steps_of_two),
@@ -249,6 +253,16 @@ fn count_link(tally: &mut Tally, history: &History) {
         "new"
     };
     tally.count("link taken", kind);
+    if history.settings.mounting == MIRRORED {
+        for end in [link.a, link.b] {
+            let place = match end % SECTORS {
+                0 => "dead ahead",
+                32 => "dead astern",
+                _ => "beside the axis",
+            };
+            tally.count("end of a link, mirrored", place);
+        }
+    }
 }
 
 fn count_joined(tally: &mut Tally, history: &History, cells: [u32; 2], joined: bool, steps: u32) {

@@ -56,7 +56,8 @@ impl Book {
     }
 
     /// The book and the log that were stored: `raw` and `log` of another book. Refuses a log that is too short, and a book that
-    /// is not in order. Whether the two belong together nobody can see.
+    /// is not in order. Whether the two belong together nobody can see; nor whether a mirrored book was stored before 0.2.2, when
+    /// its links stood at other cells: such a book is to be opened anew.
     pub fn stored(raw: RawBook, log: Vec<u16>) -> Result<Book, Refusal> {
         if log.len() < LOG_PLACES {
             return Err(Refusal::Short);

@@ -9,7 +9,7 @@ use crate::Refusal;
 pub enum Mounting {
     /// The unit numbers cells as the lorry does.
     Plain = 1,
-    /// Sector s of the unit is sector 63 - s of the lorry.
+    /// Sector s of the unit is sector (64 - s) mod 64 of the lorry, in the same ring: 0, dead ahead, and 32, dead astern, stay.
     Mirrored = 2,
 }
 
@@ -49,8 +49,9 @@ impl UnitCell {
     /// ```
     /// use kerb::{LorryCell, Mounting, UnitCell};
     ///
-    /// assert_eq!(UnitCell(64).to_lorry(Mounting::Mirrored), LorryCell(127));
-    /// assert_eq!(UnitCell(64).to_lorry(Mounting::Plain), LorryCell(64));
+    /// assert_eq!(UnitCell(63).to_lorry(Mounting::Mirrored), LorryCell(1));
+    /// assert_eq!(UnitCell(64).to_lorry(Mounting::Mirrored), LorryCell(64));
+    /// assert_eq!(UnitCell(63).to_lorry(Mounting::Plain), LorryCell(63));
     /// ```
     pub fn to_lorry(self, mounting: Mounting) -> LorryCell {
         LorryCell(calls::lorry_cell(mounting.number(), self.0))

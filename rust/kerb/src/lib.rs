@@ -13,8 +13,8 @@
 //!
 //! let mut book = Book::open(Settings { t0: 0, b: 100, n: 8, mounting: Mounting::Mirrored })?;
 //! book.link(40, UnitCell(0), UnitCell(1))?;
-//! // mirrored: the lorry has 63 and 62 for the unit's 0 and 1
-//! assert!(book.joined(LorryCell(63), LorryCell(62))?.yes);
+//! // mirrored: the lorry has 0 and 63 for the unit's 0 and 1
+//! assert!(book.joined(LorryCell(0), LorryCell(63))?.yes);
 //! # Ok::<(), kerb::Refusal>(())
 //! ```
 

@@ -11,7 +11,7 @@ pub const CELLS: u32 = RINGS * SECTORS;
 
 /// Mounting 1: the unit numbers cells as the lorry does.
 pub const PLAIN: u32 = 1;
-/// Mounting 2: sector s of the unit is sector 63 - s of the lorry.
+/// Mounting 2: sector s of the unit is sector (64 - s) mod 64 of the lorry.
 pub const MIRRORED: u32 = 2;
 
 /// Whether the number is one of a cell.
@@ -24,11 +24,11 @@ pub(crate) fn both_are_cells(first: u32, second: u32) -> Result<(), Refusal> {
     refuse_if(!is_cell(first) || !is_cell(second), Refusal::Cell)
 }
 
-/// Sector s becomes sector 63 - s, in the same ring.
+/// Sector s becomes sector (64 - s) mod 64, in the same ring.
 pub fn mirrored(cell: u32) -> u32 {
     let ring = cell / SECTORS;
     let sector = cell % SECTORS;
-    SECTORS * ring + (SECTORS - 1 - sector)
+    SECTORS * ring + (SECTORS - sector) % SECTORS
 }
 
 /// The lorry's number of a cell that came in the unit's numbers.
@@ -46,17 +46,26 @@ mod tests {
 
     #[test]
     fn the_mirror_examples() {
-        assert_eq!(mirrored(0), 63);
-        assert_eq!(mirrored(64), 127);
-        assert_eq!(mirrored(1023), 960);
+        assert_eq!(mirrored(0), 0);
+        assert_eq!(mirrored(64), 64);
+        assert_eq!(mirrored(63), 1);
+        assert_eq!(mirrored(1023), 961);
     }
 
     #[test]
     fn the_mirror_rule_at_every_cell() {
         for ring in 0..16 {
-            for s in 0..64 {
-                assert_eq!(mirrored(64 * ring + s), 64 * ring + (63 - s));
+            assert_eq!(mirrored(64 * ring), 64 * ring);
+            for s in 1..64 {
+                assert_eq!(mirrored(64 * ring + s), 64 * ring + (64 - s));
             }
+        }
+    }
+
+    #[test]
+    fn sectors_0_and_32_alone_mirror_to_themselves() {
+        for cell in 0..CELLS {
+            assert_eq!(mirrored(cell) == cell, [0, 32].contains(&(cell % 64)));
         }
     }
 
@@ -71,7 +80,7 @@ mod tests {
     #[test]
     fn only_mounting_2_mirrors() {
         assert_eq!(in_lorrys_numbers(5, PLAIN), 5);
-        assert_eq!(in_lorrys_numbers(5, MIRRORED), 58);
+        assert_eq!(in_lorrys_numbers(5, MIRRORED), 59);
     }
 
     #[test]

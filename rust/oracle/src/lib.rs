@@ -1,10 +1,10 @@
 //! An independent reading of the document "The intended build and its rules".
 //!
-//! This program was written from that page alone, and the text lists from the
-//! request for them. It keeps the plain list of all accepted links and searches
-//! the window's links afresh for every question. The two forests are built for
-//! the step counts only, link by link as the rules say, and thrown away again.
-//! Nothing is remembered from one question to the next.
+//! This program was written from that page alone, and the text lists and the
+//! mirror rule from the requests for them. It keeps the plain list of all
+//! accepted links and searches the window's links afresh for every question. The
+//! two forests are built for the step counts only, link by link as the rules say,
+//! and thrown away again. Nothing is remembered from one question to the next.
 //!
 //! Every call gives `Ok` with its result fields, or `Err` with the refusal.
 //! "With a refusal the other result fields are 0" is then

@@ -181,10 +181,10 @@ fn an_empty_file_plays_to_a_fresh_book() {
 fn records_arrive_in_the_units_numbers() {
     let set = settings(4, 100, MIRRORED, 0);
     let text = listing(&file(set, &[(0, 0, 1), (0, 64, 65)]));
-    // 63 and 62; 127 and 126.
+    // 0 and 63; 64 and 127.
     assert_eq!(
         text,
-        "window 4 100 2 0\ngroup 62 2 3\ngroup 126 2 3\nlinks 2\n"
+        "window 4 100 2 0\ngroup 0 2 3\ngroup 64 2 3\nlinks 2\n"
     );
 }
 

@@ -7,14 +7,14 @@ use oracle::*;
 #[test]
 fn links_are_stored_in_the_lorrys_numbers() {
     let mut book = opened(3, 10, MIRRORED, 0);
-    links(&mut book, &[(0, 0, 64), (0, 1023, 1022)]);
+    links(&mut book, &[(0, 1, 65), (0, 1023, 1022)]);
     let stored: Vec<(u32, u32)> = history(&book).links.iter().map(|l| (l.a, l.b)).collect();
-    assert_eq!(stored, [(63, 127), (960, 961)]);
+    assert_eq!(stored, [(63, 127), (961, 962)]);
     // Questions and answers are always in the lorry's numbers.
     assert_eq!(joined(&book, 63, 127), (true, 1));
-    assert_eq!(joined(&book, 0, 64), (false, 0));
+    assert_eq!(joined(&book, 1, 65), (false, 0));
     assert_eq!(chain(&book, 127, 63).unwrap().2, [127, 63]);
-    assert_eq!(chain(&book, 960, 961).unwrap().2, [960, 961]);
+    assert_eq!(chain(&book, 961, 962).unwrap().2, [961, 962]);
 }
 
 #[test]

@@ -1,21 +1,24 @@
 -- The laws of mirroring, for every number of sectors: callers use these, and never the rule's text.
 --
--- Two facts about the rule carry them all, `rule-below` and `rule-twice`: it keeps to the sectors, and twice it changes
--- nothing. A mirrored cell then has the ring it had and the mirrored sector, which is all that there is to know of a cell.
-use Prim.Native.Nat.{ℕ, _≤_, _<_}
+-- Three facts about the rule carry them all: it keeps to the sectors (`rule-below`), twice it changes nothing (`rule-twice`),
+-- and it leaves just the axis as it is (`rule-axis`). The last two look at sector 0, which stays, and at any other s, which
+-- becomes the number of sectors less s. A mirrored cell then has the ring it had and the mirrored sector, which is all that
+-- there is to know of a cell.
+use Prim.Native.Nat.{ℕ, _+_, _-_, _≤_, _<_}
 use mathlib.Core.Path.{_≡_, _∙_, refl, sym, ap}
 use mathlib.Core.Bool.{true, false, cond}
 use mathlib.Core.List.{[], _∷_, map}
+use mathlib.Core.Logic.{_↔_, _⊎_, inl, inr, ⊎-elim, ⊎-map}
 use native.Mathlib.Decide.{decLt}
-use native.Mathlib.Nat.{add-zero, div-add-mod, div-eq-of-lt, div-lt-iff-lt-mul, mod-eq-of-lt, mod-lt, mul-add-div, mul-add-mod-self-left}
+use native.Mathlib.Nat.{add-zero, div-add-mod, div-eq-of-lt, div-lt-iff-lt-mul, eq-zero-or-pos, mod-eq-of-lt, mod-lt, mod-self, mul-add-div, mul-add-mod-self-left, sub-zero}
 use native.Mathlib.Omega.{arith}
 use borrow.Author.Tests.{lt-ltb, le-ltb}
 use lib.Dec.{eqb}
 use Rattle.cells.specs.declared.Fitting.{Fitting}
-use Rattle.cells.specs.Cell.{cellsOver, cellAt, ringOf, sectorOf, mirrorSector, mirrorOver, lorryCellOver, sectors, mirror, lorryCell, unitCell}
+use Rattle.cells.specs.Cell.{cellsOver, cellAt, ringOf, sectorOf, mirrorSector, mirrorOver, lorryCellOver, sectors, cells, mirror, lorryCell, unitCell}
 
--- RULES 1.4: 0 becomes 63, 64 becomes 127, 1023 becomes 960
-pub examples : map mirror (0 ∷ 64 ∷ 1023 ∷ []) ≡ 63 ∷ 127 ∷ 960 ∷ []
+-- RULES 1.4: 0 becomes 0, 64 becomes 64, 63 becomes 1, 1023 becomes 961
+pub examples : map mirror (0 ∷ 64 ∷ 63 ∷ 1023 ∷ []) ≡ 0 ∷ 64 ∷ 1 ∷ 961 ∷ []
 unfolding mirrorOver
 examples = refl
 
@@ -24,15 +27,38 @@ injective : (f : ℕ → ℕ) → ((c : ℕ) → f (f c) ≡ c) → (a b : ℕ) 
 injective f twice a b e = sym (twice a) ∙ ap f e ∙ twice b
 
 module _ (sectors : ℕ) where
+  -- sector 0 stays
+  rule-zero : mirrorSector sectors 0 ≡ 0
+  unfolding mirrorSector
+  rule-zero = rw (sub-zero, mod-self)
+
+  -- and every other becomes the number of sectors less it
+  rule-other : (s : ℕ) → 0 < s → s < sectors → mirrorSector sectors s ≡ sectors - s
+  unfolding mirrorSector
+  rule-other s pos h = mod-eq-of-lt (omega arith)
+
   -- the rule keeps to the sectors
   rule-below : (s : ℕ) → s < sectors → mirrorSector sectors s < sectors
   unfolding mirrorSector
-  rule-below s h = omega arith
+  rule-below s h = mod-lt (sectors - s) (omega arith)
 
-  -- and twice it changes nothing
+  -- twice it changes nothing
   rule-twice : (s : ℕ) → s < sectors → mirrorSector sectors (mirrorSector sectors s) ≡ s
-  unfolding mirrorSector
-  rule-twice s h = omega arith
+  rule-twice s h =
+      elim (eq-zero-or-pos s) [
+        | inl z ↦ rw (z, rule-zero, rule-zero)
+        | inr pos ↦ rw (rule-other s pos h, rule-other (sectors - s) (omega arith) (omega arith)) (omega arith)
+      ]
+
+  -- and it leaves just the axis as it is: sector 0, dead ahead, and the one half the way round, dead astern
+  rule-axis : (s : ℕ) → s < sectors → (mirrorSector sectors s ≡ s) ↔ ((s ≡ 0) ⊎ (s + s ≡ sectors))
+  rule-axis s h = (on-axis, stays)
+    where
+      on-axis : mirrorSector sectors s ≡ s → (s ≡ 0) ⊎ (s + s ≡ sectors)
+      on-axis e = ⊎-map (λ z. z) (λ pos. omega (arith, sym (rule-other s pos h) ∙ e)) (eq-zero-or-pos s)
+
+      stays : (s ≡ 0) ⊎ (s + s ≡ sectors) → mirrorSector sectors s ≡ s
+      stays = ⊎-elim (λ z. rw (z, rule-zero)) (λ half. rw (rule-other s (omega arith) h) (omega arith))
 
   module _ (c : ℕ) (h : c < cellsOver sectors) where
     sectors-pos : 0 < sectors
@@ -56,6 +82,12 @@ module _ (sectors : ℕ) where
     -- the mirror of a cell is a cell
     pub mirror-is-cell : mirrorOver sectors c < cellsOver sectors
     mirror-is-cell = div-lt-iff-lt-mul sectors-pos .0 (rw mirror-ring (div-lt-iff-lt-mul sectors-pos .1 h))
+
+    -- it is the same cell exactly on the axis
+    pub mirror-axis : (mirrorOver sectors c ≡ c) ↔ ((sectorOf sectors c ≡ 0) ⊎ (sectorOf sectors c + sectorOf sectors c ≡ sectors))
+    mirror-axis =
+        let (on-axis, stays) = rule-axis (sectorOf sectors c) sector-below in
+        (λ e. on-axis (sym mirror-sector ∙ ap (sectorOf sectors) e), λ a. rw (mirror-at, stays a, div-add-mod))
 
   -- a number that is no cell is its own mirror
   pub mirror-other : (c : ℕ) → cellsOver sectors ≤ c → mirrorOver sectors c ≡ c
@@ -102,6 +134,12 @@ module _ (sectors : ℕ) where
   -- different cells have different numbers on the lorry
   pub lorry-injective : (mounting a b : ℕ) → lorryCellOver sectors mounting a ≡ lorryCellOver sectors mounting b → a ≡ b
   lorry-injective = by-mounting (λ f. (a b : ℕ) → f a ≡ f b → a ≡ b) (λ a b e. e) mirror-injective
+
+-- RULES 1.4: the cells that mirror to themselves are exactly those of sectors 0 and 32
+pub axis : (c : ℕ) → c < cells → (mirror c ≡ c) ↔ ((sectorOf sectors c ≡ 0) ⊎ (sectorOf sectors c ≡ 32))
+axis c h =
+    let (on-axis, stays) = mirror-axis sectors c h in
+    (λ e. ⊎-map (λ z. z) (λ half. omega arith) (on-axis e), λ a. stays (⊎-map (λ z. z) (λ half. omega arith) a))
 
 -- from the unit's number to the lorry's and back, and the other way round
 pub there-and-back : (fitting : Fitting) (c : ℕ) → (unitCell fitting (lorryCell fitting c) ≡ c) × (lorryCell fitting (unitCell fitting c) ≡ c)

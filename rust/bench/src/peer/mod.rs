@@ -11,7 +11,7 @@ mod text;
 mod time;
 mod trail;
 
-use crate::any_book::{chain_refused, joined_refused, AnyBook};
+use crate::any_book::{chain_refused, joined_refused, lorry_cell, AnyBook};
 use crate::neighbours::Neighbours;
 use forest::{every, Forest, Labelled, CELLS};
 use kerb::calls::{ChainAnswer, Clock, JoinedAnswer};
@@ -47,15 +47,6 @@ impl<const CHECKED: bool, const BY_UNIONS: bool> Peer<CHECKED, BY_UNIONS> {
             && self.forward.is_sound()
             && self.backward.forest.is_sound()
             && every(&self.backward.label, |label| label < PLACES as u8)
-    }
-
-    /// The lorry's number of a unit's cell.
-    fn lorry_cell(&self, cell: u16) -> u16 {
-        if self.mounting == 2 {
-            cell ^ 63
-        } else {
-            cell
-        }
     }
 
     fn link_number(&self, tick: u32, one: u16, other: u16) -> u8 {
@@ -106,8 +97,8 @@ impl<const CHECKED: bool, const BY_UNIONS: bool> AnyBook for Peer<CHECKED, BY_UN
         if number != 0 {
             return number;
         }
-        let one = self.lorry_cell(one);
-        let other = self.lorry_cell(other);
+        let one = lorry_cell(self.mounting, one);
+        let other = lorry_cell(self.mounting, other);
         self.move_to(tick);
         let spot = self.spot(self.open_slide());
         let count = self.counts[spot];
