@@ -25,8 +25,7 @@ pub trait AnyBook {
     fn chain(&mut self, one: u16, other: u16, lent: &mut [u16]) -> ChainAnswer;
 }
 
-/// The lorry's number of a unit's cell, for those that are no library: on a mirrored unit sector s is sector (64 - s) mod 64, in
-/// the same ring.
+/// The lorry's number of a unit's cell, for the baselines: on a mirrored unit sector s is sector (64 - s) mod 64, in the same ring.
 pub fn lorry_cell(mounting: u8, cell: u16) -> u16 {
     if mounting != Mounting::Mirrored.number() {
         return cell;
