@@ -24,7 +24,8 @@
  *   - two threads do not use one book at once, unless both only ask.
  *
  * A book has no padding and no pointer in it: its bytes can be copied, stored over a battery swap and compared. (One of a mirrored
- * unit that was stored before 0.2.2 has its links at other cells, and is to be opened anew: docs/BOOK.md.)
+ * unit that was stored before 0.2.2 has its links at other cells, and is to be opened anew; one that was stored before 0.2.3 may hold
+ * links of cells that do not touch, which count until they leave the window: docs/BOOK.md.)
  */
 #ifndef KERB_H
 #define KERB_H
@@ -80,7 +81,8 @@ enum kerb_number {
     KERB_LETTERS = 10,    /* the last four bytes of the file are not KERB */
     KERB_OFFSET = 11,     /* the file's offset and count do not agree with its length */
     KERB_PAD = 12,        /* a pad byte of the file is not zero */
-    KERB_LINE = 13        /* a line of the text breaks the form */
+    KERB_LINE = 13,       /* a line of the text breaks the form */
+    KERB_APART = 14       /* the link's two cells do not touch */
 };
 
 enum kerb_mounting { KERB_PLAIN = 1, KERB_MIRRORED = 2 };
@@ -301,9 +303,10 @@ KERB_LOOK_AT struct kerb_book kerb_never_opened(void);
 KERB_LOOK_AT uint8_t kerb_opening(struct kerb_book *book, uint16_t *log, size_t log_places, struct kerb_settings settings);
 
 /*
- * A link of two cells, IN THE UNIT'S NUMBERS. A later tick first moves the time to it, as kerb_clock does; a link that is refused
- * moves nothing. A cell may be linked with itself and a link repeated: both are stored and count.
- * Refuses, in this order: 1, 6, 3, 4, 5. Stack: 5 KB.
+ * A link of two cells that touch, IN THE UNIT'S NUMBERS: different cells, whose rings differ by at most 1 and whose sectors differ by
+ * at most 1 round the circle, 63 and 0 being next to each other. Both mountings judge alike. A later tick first moves the time to
+ * it, as kerb_clock does; a link that is refused moves nothing. A link may be repeated: each time it is stored and counts.
+ * Refuses, in this order: 1, 6, 3, 14, 4, 5. Stack: 5 KB.
  */
 KERB_LOOK_AT uint8_t kerb_link(struct kerb_book *book, uint16_t *log, size_t log_places, uint32_t tick, uint16_t one,
                                uint16_t other);
@@ -385,7 +388,7 @@ KERB_LOOK_AT uint8_t kerb_write(struct kerb_settings settings, const uint8_t *re
  * The records of a link file into a book, one after the other, each by the link call. Does not open the book: who plays a file
  * opens one first, with the settings that kerb_read gives. Stops at the first record that is refused: `taken` is then its
  * place from 0, and THE RECORDS BEFORE IT STAY in the book.
- * Refuses, in this order: 9, 10, 11, 12, 2 as kerb_read, with nothing played; then for each record 1, 6, 3, 4, 5.
+ * Refuses, in this order: 9, 10, 11, 12, 2 as kerb_read, with nothing played; then for each record 1, 6, 3, 14, 4, 5.
  * Stack: 5 KB.
  */
 KERB_LOOK_AT struct kerb_play_answer kerb_play(struct kerb_book *book, uint16_t *log, size_t log_places, const uint8_t *file,
@@ -485,6 +488,8 @@ static inline const char *kerb_status_text(uint8_t number)
         return "a pad byte of the file is not zero";
     case KERB_LINE:
         return "a line of the text breaks the form";
+    case KERB_APART:
+        return "the link's two cells do not touch";
     default:
         return "no number of this library";
     }

@@ -9,6 +9,7 @@ use native.Mathlib.Nat.{zero-lt-suc, mod-lt}
 use borrow.Author.Tests.{ltb-true, leb-true}
 use lib.ListN.{length}
 use Rattle.settings.specs.declared.Settings.{Settings}
+use Rattle.cells.specs.Touching.{touch}
 use Rattle.slides.specs.Clock.{notBefore, slideOf, placeOf}
 use Rattle.slides.proofs.Slides.{moved-n, moved-place, moved-slide, place-below}
 use Rattle.book_state.specs.declared.Book.{Book}
@@ -49,6 +50,7 @@ pub record Taken (b : Book) (log : List ℕ) (tick one other : ℕ) : Type 0 whe
   pub in-order : inOrder b ≡ true
   pub room : has logPlaces log ≡ true
   pub cells : areCells one other ≡ true
+  pub touching : touch one other ≡ true
   pub later : notBefore (b .clock) tick ≡ true
   pub few : stored b (slideOf (b .clock) tick) < 256
 
@@ -60,12 +62,14 @@ taken b log tick one other e =
     let w₃ = first-passed _ _ (w₂ .1) in
     let w₄ = first-passed _ _ (w₃ .1) in
     let w₅ = first-passed _ _ (w₄ .1) in
+    let w₆ = first-passed _ _ (w₅ .1) in
     record {
       in-order = unless-passed _ _ (w₁ .0);
       room = unless-passed _ _ (w₂ .0);
       cells = unless-passed _ _ (w₃ .0);
-      later = unless-passed _ _ (w₄ .0);
-      few = ltb-true _ _ (unless-passed _ _ (w₅ .0));
+      touching = unless-passed _ _ (w₄ .0);
+      later = unless-passed _ _ (w₅ .0);
+      few = ltb-true _ _ (unless-passed _ _ (w₆ .0));
     }
 
 -- a link that is taken finds room in the slide that the time has moved to

@@ -11,6 +11,7 @@ use Rattle.numbers.specs.Kinds.{Cell, Counts, Labels, Log, Number, Parents, Siz
 use Rattle.settings.specs.Settings.{takenNumber, fittingOf}
 use Rattle.settings.specs.declared.Settings.{Settings}
 use Rattle.cells.specs.Cell.{lorryCell}
+use Rattle.cells.specs.Touching.{touch}
 use Rattle.slides.specs.Clock.{notBefore, slideOf, openSlide, chunkOf, placeOf, started}
 use Rattle.slides.specs.declared.Clock.{Clock}
 use Rattle.forest_unite.specs.United.{mergeOf, mergedParents, mergedSizes}
@@ -58,7 +59,7 @@ openingByNumber (suc k) b log s = record { book = b; log = log; number = suc k }
 unfoldable pub openingOf : (book : Book) (log : Log) (settings : Settings) → Outcome
 openingOf b log s = openingByNumber (openingNumber s log) b log s
 
--- ---- link: 1, 6, 3, 4, 5
+-- ---- link: 1, 6, 3, 14, 4, 5
 
 -- given whether the book is in order, its clock, and how many links the link's slide holds
 abbrev pub linkNumberIn : (ordered : Bool) (clock : Clock) (held : ℕ) (log : Log) (tick : Tick) (one other : Cell) → Number
@@ -67,6 +68,7 @@ linkNumberIn ordered clock held log tick one other =
     (unless ordered 1
     ∷ unless (has logPlaces log) 6
     ∷ unless (areCells one other) 3
+    ∷ unless (touch one other) 14
     ∷ unless (notBefore clock tick) 4
     ∷ unless (ltb held 256) 5
     ∷ [])

@@ -77,6 +77,9 @@ fn link_number(clock: Clock, held: u16, log: &[u16], tick: u32, one: u16, other:
     if !are_cells(one, other) {
         return 3;
     }
+    if !cells::touch(one, other) {
+        return 14;
+    }
     if !slides::not_before(clock, tick) {
         return 4;
     }

@@ -1,9 +1,10 @@
-// The lorry's numbers of a unit's cells, by the way the unit is mounted (RULES 1).
+// The lorry's numbers of a unit's cells, by the way the unit is mounted, and which cells touch (RULES 1).
 mod table;
 
 use table::MIRROR;
 ghost use mathlib.Core.Path.{_≡_};
 ghost use Rattle.cells.specs.Cell.{sectors, ringOf, sectorOf, mirror, lorryCell, unitCell};
+ghost use Rattle.cells.specs.Touching.{difference, touch};
 
 // How a unit is fitted to its lorry (RULES 1.3).
 #[repr(C)]
@@ -54,4 +55,32 @@ pub fn sector(cell: u16) -> u16
     ensures { λ r. ⌜ r ≡ sectorOf sectors cell ⌝ }
 {
     cell % 64
+}
+
+// By how much two numbers differ.
+fn difference(one: u16, other: u16) -> u16
+    ensures { λ r. ⌜ r ≡ difference one other ⌝ }
+{
+    if one < other {
+        other - one
+    } else {
+        one - other
+    }
+}
+
+// Whether two cells touch. Rings end, and sectors go round: the last and the first differ by 63 and are next to each other.
+pub fn touch(one: u16, other: u16) -> bool
+    ensures { λ r. ⌜ r ≡ touch one other ⌝ }
+{
+    if one == other {
+        return false;
+    }
+    if 1 < difference(ring(one), ring(other)) {
+        return false;
+    }
+    let apart = difference(sector(one), sector(other));
+    if apart <= 1 {
+        return true;
+    }
+    apart == 63
 }

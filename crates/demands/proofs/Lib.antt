@@ -21,5 +21,6 @@ pub mod Split
 pub mod Spots
 pub mod Steps
 pub mod Table
+pub mod Touching
 pub mod Window
 pub mod WindowIs

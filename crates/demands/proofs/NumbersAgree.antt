@@ -14,6 +14,7 @@ use lib.Dec.{eqb, ltb}
 use lib.ListN.{getD}
 use borrow.Author.Tests.{eq-eqb, ne-eqb, eqb-true}
 use Rattle.settings.specs.declared.Settings.{Settings}
+use Rattle.cells.specs.Touching.{touch}
 use Rattle.slides.specs.Clock.{notBefore, slideOf, placeOf}
 use Rattle.slides.proofs.Slides.{slide-later, place-rest}
 use Rattle.book_state.specs.declared.Book.{Book}
@@ -83,8 +84,9 @@ module _ {h : History} {s : State} (a : Agrees h s) where
   link-number tick one other =
       passes 1 _ (agrees-in-order a) ∙ passes 6 _ (a .room)
       ∙ first-under (areCells one other) 2 _ _
+      (λ _. first-under (touch one other) 13 _ _
       (λ _. rw (ap (λ c. notBefore c tick) (a .clock))
-      (first-under (notBefore (h .clock) tick) 3 _ _ (λ later. ap (λ k. firstOf (unless (ltb k 256) 5 ∷ [])) (stored-agrees tick later))))
+      (first-under (notBefore (h .clock) tick) 3 _ _ (λ later. ap (λ k. firstOf (unless (ltb k 256) 5 ∷ [])) (stored-agrees tick later)))))
 
   pub clock-number : (tick : ℕ) → clockNumber (s .book) (s .log) tick ≡ numberIn (roomIn s) h (clock tick)
   unfolding clockNumber numberIn

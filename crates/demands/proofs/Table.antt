@@ -10,6 +10,7 @@ use Rattle.demands.specs.History.{opening}
 use Rattle.demands.specs.Implementation.{ours, State, gives}
 use Rattle.demands.specs.Demands.{roomIn, Table}
 use Rattle.demands.proofs.NumbersAgree.{opening-gives, number-agrees, asked-agrees}
+use Rattle.demands.proofs.Touching.{apart-agrees}
 use Rattle.demands.proofs.Keeps.{keeps}
 
 openings : (s : State) (settings : Settings)
@@ -22,5 +23,6 @@ table =
     record {
       openings = openings;
       calls = λ s cs h told. number-agrees (keeps s cs h told);
+      apart = λ s cs h told. apart-agrees (keeps s cs h told);
       asks = λ s cs h told one other. asked-agrees (keeps s cs h told) one other;
     }

@@ -9,11 +9,14 @@ use mathlib.Core.Option.{some}
 use lib.Dec.{eqb}
 use lib.ListN.{length, take, drop}
 use Rattle.numbers.specs.Kinds.{Bytes, Cell, Log}
-use Rattle.graph.specs.Link.{Chained, chains}
+use Rattle.graph.specs.Link.{Linked, Chained, chains}
 use Rattle.graph.specs.Trail.{Best}
 use Rattle.graph.specs.Forest.{Forest, forestOf, walk, walkAt, parentAt}
 use Rattle.settings.specs.Settings.{takenNumber}
 use Rattle.settings.specs.declared.Settings.{Settings}
+use Rattle.cells.specs.Cell.{lorryCell}
+use Rattle.cells.specs.Touching.{touch}
+use Rattle.cells.specs.declared.Fitting.{Fitting}
 use Rattle.slides.specs.Clock.{notBefore, slideOf, openSlide}
 use Rattle.book_state.specs.declared.Book.{Book}
 use Rattle.book_state.specs.Order.{neverOpened}
@@ -37,6 +40,7 @@ use Rattle.chain.specs.Chain.{ChainOutcome, chainPlaces, chainOf}
 use Rattle.demands.specs.History.{
   Call,
   opening,
+  link,
   clock,
   History,
   historyOf,
@@ -70,6 +74,9 @@ pub record Table (p : Implementation) : Type 0 where
   pub openings : (s : State) (settings : Settings) →
       gives p s (opening settings) .number ≡ firstOf (takenNumber settings ∷ unless (roomIn s) 6 ∷ [])
   pub calls : AfterCalls p λ s h. (c : Call) → gives p s c .number ≡ numberIn (roomIn s) h c
+  -- a link's is 14 exactly when both are cells and do not touch (RULES 2.11)
+  pub apart : AfterCalls p λ s h. (tick one other : ℕ) →
+      (gives p s (link tick one other) .number ≡ 14) ↔ ((areCells one other ≡ true) × (touch one other ≡ false))
   pub asks : AfterCalls p λ s h. (one other : ℕ) → p .joinedGives (s .book) one other .number ≡ unless (areCells one other) 3
 
 -- 1. for every book, log and chain buffer, altered ones too: a number that is not 0 leaves them as they were and the other fields 0
@@ -214,6 +221,16 @@ pub record Chain (p : Implementation) : Type 0 where
   pub never-8 : (s : State) (chain : List ℕ) (one other : ℕ) → givesChain p s chain one other .answer .number ≡ 8 → ⊥
   pub answers : AfterCalls p λ s h. (chain : List ℕ) → has chainPlaces chain ≡ true → (one other : ℕ) → areCells one other ≡ true →
       Answers p s h chain one other (givesChain p s chain one other)
+
+-- only cells that touch are linked (RULES 1.8, 2.11). Either may be named first, none touches itself, and the unit's numbers and the
+-- lorry's are judged alike; any two cells that a link of a history links touch, in the lorry's numbers
+pub record Touching : Type 0 where
+  pub symmetric : (one other : ℕ) → touch one other ≡ touch other one
+  pub itself : (c : ℕ) → touch c c ≡ false
+  pub mountings : (fitting : Fitting) (one other : ℕ) → areCells one other ≡ true →
+      touch (lorryCell fitting one) (lorryCell fitting other) ≡ touch one other
+  pub linked : (room : Bool) (cs : List Call) (h : History) → historyOf room cs ≡ some h →
+      (one other : ℕ) → Linked one other (linksOf (h .links)) → touch one other ≡ true
 
 -- a book that was never opened: all but playing give 1, whatever the log; playing gives it at record 0, where there is one, and its
 -- open slide is 0 (RULES 7.8). A file that the reader refuses is not played (FilesRefused)

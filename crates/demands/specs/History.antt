@@ -14,6 +14,7 @@ use Rattle.graph.specs.Forest.{Labelled}
 use Rattle.settings.specs.Settings.{takenNumber, fittingOf}
 use Rattle.settings.specs.declared.Settings.{Settings}
 use Rattle.cells.specs.Cell.{lorryCell}
+use Rattle.cells.specs.Touching.{touch}
 use Rattle.cells.specs.declared.Fitting.{Fitting}
 use Rattle.slides.specs.Clock.{notBefore, slideOf, openSlide, started, movedTo}
 use Rattle.slides.specs.declared.Clock.{Clock}
@@ -58,13 +59,14 @@ slideLinks slide ss = ofSlides (λ t. eqb t slide) ss
 
 -- ---- the table
 
--- the number of a call once a book is open (RULES 7.1, 7.2): an opening 2 and 6, a link 3, 4 and 5 (for a full slide, RULES 2.9),
--- a clock 4
+-- the number of a call once a book is open (RULES 7.1, 7.2): an opening 2 and 6, a link 3, 14 (for cells that do not touch, RULES 2.11),
+-- 4 and 5 (for a full slide, RULES 2.9), a clock 4
 unfoldable pub numberIn : (room : Bool) (history : History) (call : Call) → Number
 numberIn room h (opening s) = firstOf (takenNumber s ∷ unless room 6 ∷ [])
 numberIn room h (link tick one other) =
     firstOf
     (unless (areCells one other) 3
+    ∷ unless (touch one other) 14
     ∷ unless (notBefore (h .clock) tick) 4
     ∷ unless (ltb (howMany (slideLinks (slideOf (h .clock) tick) (h .links))) 256) 5
     ∷ [])

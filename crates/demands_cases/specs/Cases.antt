@@ -1,4 +1,4 @@
--- The worked cases (RULES 9): P1 to P12 and our own O1 to O4, as one script under one statement. Each step of the script is a call
+-- The worked cases (RULES 9): P1 to P12 and our own O1 to O5, as one script under one statement. Each step of the script is a call
 -- with its number or a question with its whole answer; and that is what `ours` gives, the implementation that the contracts cite,
 -- from every book and every log that is long enough.
 --
@@ -15,6 +15,7 @@ use Rattle.graph.specs.Forest.{climb, atLeast}
 use Rattle.settings.specs.Settings.{takenNumber, fittingOf}
 use Rattle.settings.specs.declared.Settings.{Settings}
 use Rattle.cells.specs.Cell.{lorryCellOver}
+use Rattle.cells.specs.Touching.{touchOver}
 use Rattle.slides.specs.Clock.{notBefore, slideOf, placeOf, started, movedTo, clockInRange}
 use Rattle.forest.specs.Arrays.{countFrom}
 use Rattle.forest_check.specs.Sound.{every}
@@ -177,6 +178,18 @@ script =
     ∷ call (link 60 5 1024) 3
     ∷ joined 4 6 true 3
     ∷ links 45 4 5
+    -- O5: only cells that touch are linked; 14 moves no time, and comes after 3 and before 4 (RULES 9.12)
+    ∷ opens 3 10 0 1
+    ∷ call (link 60 0 960) 14
+    ∷ call (link 60 0 128) 14
+    ∷ call (link 60 5 5) 14
+    ∷ links 45 63 0
+    ∷ links 45 63 64
+    ∷ links 45 0 127
+    ∷ call (link 30 0 1024) 3
+    ∷ call (link 30 0 2) 14
+    ∷ call (link 30 0 1) 4
+    ∷ chain 64 127 (64 ∷ 63 ∷ 0 ∷ 127 ∷ []) 4 2
     ∷ [])
 
 -- what an opening that is taken leaves, whatever book and log it was given
@@ -201,7 +214,7 @@ later = drop 1 script
 
 -- for any log places from 16,384 on
 computed : (rest : Log) → given (record { book = emptied (started settings) (fittingOf settings); log = replicate logPlaces 0 ++ rest }) later ≡ stated later
-unfolding given stated gives openingOf linkOf clockOf joinedOf chainOf openingNumber openingByNumber stored linkNumber linkStored linkByNumber clockNumber clockByNumber parentSteps parentStepsAt stepLinks fourWalks joinedNumber joinedByNumber chainNumber chainByNumber highest windowLinks linksFromAge atLeast trailOf firstOf has cleared emptied stayed backwardOf turned movedByChunk movedBook inOrderOf linksAt chunkLinks united unitedAll every countFrom notBefore slideOf placeOf movedTo clockInRange lorryCellOver climb chains
+unfolding given stated gives openingOf linkOf clockOf joinedOf chainOf openingNumber openingByNumber stored linkNumber linkStored linkByNumber clockNumber clockByNumber parentSteps parentStepsAt stepLinks fourWalks joinedNumber joinedByNumber chainNumber chainByNumber highest windowLinks linksFromAge atLeast trailOf firstOf has cleared emptied stayed backwardOf turned movedByChunk movedBook inOrderOf linksAt chunkLinks united unitedAll every countFrom notBefore slideOf placeOf movedTo clockInRange lorryCellOver touchOver climb chains
 computed rest = refl
 
 -- whatever book and log they start from

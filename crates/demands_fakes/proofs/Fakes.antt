@@ -16,7 +16,9 @@ use Rattle.graph.proofs.Chains.{chained-one, chains-false}
 use Rattle.settings.specs.Settings.{fittingOf}
 use Rattle.settings.specs.declared.Settings.{Settings}
 use Rattle.slides.specs.Clock.{notBefore, slideOf, placeOf, started, movedTo, clockInRange}
-use Rattle.cells.specs.Cell.{lorryCellOver}
+use Rattle.cells.specs.Cell.{sectors, lorryCellOver}
+use Rattle.cells.specs.Touching.{touchOver}
+use Rattle.cells.specs.Touching.Laws.{touch-itself}
 use Rattle.forest.specs.Arrays.{countFrom}
 use Rattle.forest_check.specs.Sound.{every}
 use Rattle.book_state.specs.Arrays.{united, unitedAll}
@@ -34,7 +36,7 @@ use Rattle.demands.specs.History.{Call, opening, link, clock, History, begun, w
 use Rattle.demands.specs.Implementation.{Implementation, ours, State, stateOf, gives, after, givesChain}
 use Rattle.demands_cases.specs.Cases.{callsOf, p11Calls}
 use Rattle.demands.specs.Demands.{HasHistory, Table, stepsIn, Joined, Chain}
-use Rattle.demands_fakes.specs.Fakes.{refusing, whereDone, withJoined, fixedJoined, inventive, withChain, fixedChain, chainless, forgetful, idle}
+use Rattle.demands_fakes.specs.Fakes.{refusing, whereDone, withJoined, fixedJoined, inventive, withChain, fixedChain, chainless, forgetful, idle, reaching}
 use Rattle.demands.proofs.Table.{table}
 use Rattle.demands.proofs.JoinedIs.{joined}
 use Rattle.demands.proofs.ChainIs.{chain}
@@ -153,6 +155,17 @@ not-chainless c =
     ∙ c .answers start opened (begun settings) told-opened buffer buffer-has 7 7 refl .done .1 (same refl) in
     omega arith
 
+-- ---- a link of a cell with itself
+
+itself-taken : gives reaching (after reaching start opened) (link 0 5 5) .number ≡ 0
+unfolding after gives openingOf linkOf openingNumber openingByNumber stored linkNumber linkStored linkByNumber firstOf has emptied inOrderOf every countFrom notBefore slideOf placeOf clockInRange touchOver climb
+itself-taken = refl
+
+pub not-reaching : Table reaching → ⊥
+not-reaching t =
+    let e : _≡_ {A = ℕ} 0 14 = sym itself-taken ∙ t .apart start opened (begun settings) told-opened 0 5 5 .1 (refl, touch-itself sectors 5) in
+    omega arith
+
 -- ---- one link
 
 abbrev linked : List Call
@@ -163,7 +176,7 @@ abbrev more : (history : History) (tick one other : ℕ) → History
 more h tick one other = withLink (withTime h tick) (record { one = one; other = other })
 
 told-linked : HasHistory start linked (more (begun settings) 0 1 2)
-unfolding historyFrom oneMore firstByNumber firstOf has numberIn addedByNumber added notBefore slideOf movedTo howMany ofSlides lorryCellOver
+unfolding historyFrom oneMore firstByNumber firstOf has numberIn addedByNumber added notBefore slideOf movedTo howMany ofSlides lorryCellOver touchOver
 told-linked = refl
 
 chained-linked : Chained (windowOf (more (begun settings) 0 1 2)) 1 2
@@ -171,7 +184,7 @@ unfolding ofSlides notBefore slideOf movedTo
 chained-linked = chained-one (here (along refl refl))
 
 not-stored : joinedOf (after forgetful start linked .book) 1 2 .yes ≡ false
-unfolding after gives whereDone openingOf linkOf clockOf joinedOf openingNumber openingByNumber stored linkNumber linkStored linkByNumber clockNumber clockByNumber parentSteps parentStepsAt stepLinks fourWalks joinedNumber joinedByNumber firstOf has cleared emptied stayed backwardOf turned movedByChunk movedBook inOrderOf linksAt chunkLinks united unitedAll every countFrom notBefore slideOf placeOf movedTo clockInRange lorryCellOver climb chains
+unfolding after gives whereDone openingOf linkOf clockOf joinedOf openingNumber openingByNumber stored linkNumber linkStored linkByNumber clockNumber clockByNumber parentSteps parentStepsAt stepLinks fourWalks joinedNumber joinedByNumber firstOf has cleared emptied stayed backwardOf turned movedByChunk movedBook inOrderOf linksAt chunkLinks united unitedAll every countFrom notBefore slideOf placeOf movedTo clockInRange lorryCellOver touchOver climb chains
 not-stored = refl
 
 pub not-forgetful : Joined forgetful → ⊥
@@ -184,7 +197,7 @@ abbrev then : History
 then = withTime (withTime (more (more (more (more (more (begun settings) 0 1 2) 10 2 3) 20 3 4) 30 5 6) 45 4 5) 50) 60
 
 told-then : HasHistory start p11Calls then
-unfolding callsOf historyFrom oneMore firstByNumber firstOf has numberIn addedByNumber added notBefore slideOf movedTo howMany ofSlides lorryCellOver
+unfolding callsOf historyFrom oneMore firstByNumber firstOf has numberIn addedByNumber added notBefore slideOf movedTo howMany ofSlides lorryCellOver touchOver
 told-then = refl
 
 chained-then : Chained (windowOf then) 4 5
@@ -192,7 +205,7 @@ unfolding ofSlides notBefore slideOf movedTo
 chained-then = chained-one (here (along refl refl))
 
 idle-then : joinedOf (after idle start p11Calls .book) 4 5 .yes ≡ false
-unfolding callsOf after gives whereDone openingOf linkOf clockOf joinedOf openingNumber openingByNumber stored linkNumber linkStored linkByNumber clockNumber clockByNumber parentSteps parentStepsAt stepLinks fourWalks joinedNumber joinedByNumber firstOf has cleared emptied stayed backwardOf turned movedByChunk movedBook inOrderOf linksAt chunkLinks united unitedAll every countFrom notBefore slideOf placeOf movedTo clockInRange lorryCellOver climb chains
+unfolding callsOf after gives whereDone openingOf linkOf clockOf joinedOf openingNumber openingByNumber stored linkNumber linkStored linkByNumber clockNumber clockByNumber parentSteps parentStepsAt stepLinks fourWalks joinedNumber joinedByNumber firstOf has cleared emptied stayed backwardOf turned movedByChunk movedBook inOrderOf linksAt chunkLinks united unitedAll every countFrom notBefore slideOf placeOf movedTo clockInRange lorryCellOver touchOver climb chains
 idle-then = refl
 
 pub not-idle : Joined idle → ⊥

@@ -1,16 +1,16 @@
 -- The builds that must be shut out (RULES 10.5), as implementations. Each differs from ours by its one fault and by nothing else:
--- where a call of ours is refused, the fake refuses it with the same number.
+-- where a call of ours is refused, the fake refuses it with the same number, but for the one whose fault is that it takes it.
 use Prim.Native.Nat.{ℕ, zero, suc}
 use mathlib.Core.Bool.{Bool, false, cond}
 use mathlib.Core.List.{List, _++_}
-use lib.Dec.{ltb}
+use lib.Dec.{eqb, ltb}
 use lib.ListN.{length, drop}
 use Rattle.numbers.specs.Kinds.{Cell, Log, Number}
 use Rattle.slides.specs.Clock.{slideOf}
 use Rattle.book_state.specs.declared.Book.{Book}
 use Rattle.book_joined.specs.declared.JoinedAnswer.{JoinedAnswer}
 use Rattle.book_joined.specs.Joined.{joinedOf}
-use Rattle.book.specs.Calls.{Outcome, openingOf, linkOf, clockOf}
+use Rattle.book.specs.Calls.{Outcome, openingOf, linkByNumber, linkOf, clockOf}
 use Rattle.chain.specs.declared.ChainAnswer.{ChainAnswer}
 use Rattle.chain.specs.Chain.{ChainOutcome, chainOf}
 use Rattle.demands.specs.Implementation.{Implementation}
@@ -105,3 +105,16 @@ idle =
     withLink λ b log tick one other.
     cond (ltb (slideOf (b .clock) tick) (b .clock .n)) (linkOf b log tick one other)
     (clockOf b log tick)
+
+-- where ours gives 14 it takes the link
+abbrev pub reaching : Implementation
+reaching =
+    record {
+      openingGives = openingOf;
+      linkGives = λ b log tick one other.
+          let o : Outcome = linkOf b log tick one other in
+          cond (eqb (o .number) 14) (linkByNumber 0 b log tick one other) o;
+      clockGives = clockOf;
+      joinedGives = joinedOf;
+      chainGives = chainOf;
+    }

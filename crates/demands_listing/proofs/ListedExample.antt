@@ -14,6 +14,7 @@ use Rattle.graph.specs.Link.{Linked, along, against, here, there, chains}
 use Rattle.settings.specs.Settings.{takenNumber}
 use Rattle.settings.specs.declared.Settings.{Settings}
 use Rattle.cells.specs.Cell.{lorryCellOver}
+use Rattle.cells.specs.Touching.{touchOver}
 use Rattle.slides.specs.Clock.{notBefore, slideOf, movedTo}
 use Rattle.forest.specs.Arrays.{countFrom}
 use Rattle.book_state.specs.Arrays.{cells}
@@ -49,7 +50,7 @@ file-calls : fileCalls exampleFile ≡ opening settings ∷ links
 file-calls = rw is-read (ap (λ calls. opening settings ∷ calls) link-calls)
 
 none-refused : recordRefusal exampleFile .number ≡ 0
-unfolding firstRefusal refusalBy added numberIn firstOf ofSlides howMany notBefore slideOf movedTo lorryCellOver
+unfolding firstRefusal refusalBy added numberIn firstOf ofSlides howMany notBefore slideOf movedTo lorryCellOver touchOver
 none-refused = rw (is-read, link-calls)
 
 abbrev stored : (slide one other : ℕ) → Stored
@@ -64,7 +65,7 @@ told =
     }
 
 calls-tell : historyOf true (opening settings ∷ links) ≡ some told
-unfolding historyFrom oneMore firstByNumber addedByNumber added numberIn firstOf ofSlides howMany notBefore slideOf movedTo lorryCellOver
+unfolding historyFrom oneMore firstByNumber addedByNumber added numberIn firstOf ofSlides howMany notBefore slideOf movedTo lorryCellOver touchOver
 calls-tell = refl
 
 -- ---- its lines

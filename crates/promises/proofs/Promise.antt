@@ -7,6 +7,7 @@ use Rattle.demands.proofs.Keeps.{keeps}
 use Rattle.demands.proofs.NeverOpened.{never-opened}
 use Rattle.demands.proofs.Refused.{refused}
 use Rattle.demands.proofs.Table.{table}
+use Rattle.demands.proofs.Touching.{touching}
 use Rattle.demands_cases.specs.Cases.{cases}
 use Rattle.demands_listing.proofs.Listed.{listed}
 use Rattle.pledges.proofs.Single.{single}
@@ -36,6 +37,7 @@ kept =
       demand-3 = record { chain = chain; code-chain = code-chain };
       table = table;
       code-table = code-table;
+      touching = touching;
       listing = listed;
       code-listing = code-listing;
       cases = cases;

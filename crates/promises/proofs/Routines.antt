@@ -24,6 +24,7 @@ use Rattle.demands.specs.Demands.{Stopped}
 use Rattle.demands.proofs.Refused.{refused}
 use Rattle.demands.proofs.FilesRefused.{read-gives, groups-gives, list-gives, unpack-gives, play-read, files-refused}
 use Rattle.demands.proofs.NumbersAgree.{opening-gives, link-gives, clock-gives, joined-gives, number-agrees, asked-agrees}
+use Rattle.demands.proofs.Touching.{apart-agrees}
 use Rattle.demands.proofs.NoEight.{chain-gives}
 use Rattle.demands.proofs.Keeps.{keeps}
 use Rattle.demands.proofs.JoinedIs.{joined-window, joined-steps, joined-few}
@@ -84,7 +85,7 @@ unfolding gives
 code-table =
     record {
       kerb-opening = demanded (code-ends .kerb-opening) λ κs a h l. number-agrees (left-agrees l) (opening _);
-      kerb-link = demanded (code-ends .kerb-link) λ κs a h l. number-agrees (left-agrees l) (link _ _ _);
+      kerb-link = demanded (code-ends .kerb-link) λ κs a h l. (number-agrees (left-agrees l) (link _ _ _), apart-agrees (left-agrees l) _ _ _);
       kerb-clock = demanded (code-ends .kerb-clock) λ κs a h l. number-agrees (left-agrees l) (clock _);
       kerb-joined = demanded (code-ends .kerb-joined) λ κs a log h l. asked-agrees (left-agrees l) _ _;
     }

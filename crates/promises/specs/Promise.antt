@@ -10,7 +10,7 @@
 -- the code itself (Routines).
 use Rattle.demands.specs.Implementation.{ours}
 use Rattle.demands.specs.Agrees.{Agrees}
-use Rattle.demands.specs.Demands.{AfterCalls, Table, Refused, FilesRefused, NeverOpened, Joined, Files, Chain}
+use Rattle.demands.specs.Demands.{AfterCalls, Table, Refused, FilesRefused, NeverOpened, Joined, Files, Chain, Touching}
 use Rattle.demands_cases.specs.Cases.{Cases}
 use Rattle.demands_listing.specs.Listed.{Listed}
 use Rattle.pledges.specs.Single.{Single}
@@ -50,10 +50,12 @@ pub record Kept : Type 2 where
   -- the numbers of the table, by the history
   pub table : Table ours
   pub code-table : CodeTable
+  -- only cells that touch are linked (RULES 2.11)
+  pub touching : Touching
   -- the listing, the groups call and playing, by the history (RULES 8, 6.6)
   pub listing : Listed
   pub code-listing : CodeListed
-  -- the worked cases P1 to P12 and O1 to O4 (RULES 9)
+  -- the worked cases P1 to P12 and O1 to O5 (RULES 9)
   pub cases : Cases
   -- two results that a public contract allows are equal: of exported calls in `ends`, of the functions below them here (RULES 10.2)
   pub single : Single

@@ -14,6 +14,7 @@ use Rattle.numbers.specs.Front.{atFront}
 use Rattle.numbers.specs.Kinds.{Bytes, Log}
 use Rattle.graph.specs.Link.{Chained}
 use Rattle.settings.specs.declared.Settings.{Settings}
+use Rattle.cells.specs.Touching.{touch}
 use Rattle.book_state.specs.declared.Book.{Book}
 use Rattle.book_state.specs.Numbers.{areCells}
 use Rattle.book_state.specs.Order.{inOrder}
@@ -112,7 +113,8 @@ pub record CodeTable : Type 2 where
       (h : History) → LeftByCalls (now book) (now log) h → r ≡ numberIn (roomIn (record { book = now book; log = now log })) h (opening s)
   pub kerb-link : CodeMeets linkCall λ κs a r e. with5 a λ book log tick one other.
       (h : History) → LeftByCalls (now book) (now log) h →
-      r ≡ numberIn (roomIn (record { book = now book; log = now log })) h (link tick one other)
+      (r ≡ numberIn (roomIn (record { book = now book; log = now log })) h (link tick one other))
+      × ((r ≡ 14) ↔ ((areCells one other ≡ true) × (touch one other ≡ false)))
   pub kerb-clock : CodeMeets clockCall λ κs a r e. with3 a λ book log tick.
       (h : History) → LeftByCalls (now book) (now log) h → r ≡ numberIn (roomIn (record { book = now book; log = now log })) h (clock tick)
   pub kerb-joined : CodeMeets joinedCall λ κs a r e. with3 a λ book one other.

@@ -34,6 +34,13 @@ pub fn lorry_cell(mounting: u8, cell: u16) -> u16 {
     cell - sector + (64 - sector) % 64
 }
 
+/// Whether two cells touch, for the baselines: rings end, and sectors go round.
+pub fn touch(one: u16, other: u16) -> bool {
+    let rings = (one / 64).abs_diff(other / 64);
+    let sectors = (one % 64).abs_diff(other % 64);
+    one != other && rings <= 1 && (sectors <= 1 || sectors == 63)
+}
+
 /// The answer of a refused joined call.
 pub fn joined_refused(number: u8) -> JoinedAnswer {
     JoinedAnswer {
@@ -64,6 +71,17 @@ mod tests {
             for cell in 0..kerb::CELLS as u16 {
                 let ours = kerb::calls::lorry_cell(mounting.number(), cell);
                 assert_eq!(lorry_cell(mounting.number(), cell), ours);
+            }
+        }
+    }
+
+    /// The workloads link touching cells alone, so this is where it would show.
+    #[test]
+    fn cells_touch_as_the_oracle_says() {
+        for one in 0..kerb::CELLS as u16 {
+            for other in 0..kerb::CELLS as u16 {
+                let theirs = oracle::touch(u32::from(one), u32::from(other));
+                assert_eq!(touch(one, other), theirs);
             }
         }
     }

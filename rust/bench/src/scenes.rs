@@ -155,7 +155,7 @@ fn cell(ring: u16, sector: u16) -> u16 {
 #[cfg(test)]
 mod tests {
     use super::*;
-    use streams::touching::touch;
+    use oracle::touch;
 
     #[test]
     fn all_links_are_of_cells_that_touch() {

@@ -1,6 +1,6 @@
 //! The window as a plain queue of links, for the baselines that keep nothing else: (c) and (d).
 
-use crate::any_book::lorry_cell;
+use crate::any_book::{lorry_cell, touch};
 use kerb::Settings;
 use std::collections::VecDeque;
 
@@ -50,6 +50,9 @@ impl Window {
     pub fn link_number(&self, tick: u32, one: u16, other: u16) -> u8 {
         if !are_cells(one, other) {
             return 3;
+        }
+        if !touch(one, other) {
+            return 14;
         }
         if tick < self.time {
             return 4;

@@ -49,7 +49,8 @@ window (n, B, mounting, open slide), one for each group of two cells or more (sm
 of cells, least hold), and the number of links in the window.
 
 A recording that is refused prints its one line, as 'refused 4 2' or 'refused 9 file', says what the
-number means on standard error, and ends with status 2.
+number means on standard error, and ends with status 2. A record that links two cells that do not touch
+is refused with number 14, and the two are told.
 ";
 
 const WHY: &str = "\

@@ -58,10 +58,13 @@ impl Recording {
         let (settings, m) = kerb::read(file).map_err(&in_file)?;
         let mut book = Book::open(settings).map_err(&in_file)?;
         let records: Result<Vec<Record>, Refusal> = (0..m).map(|i| kerb::unpack(file, i)).collect();
-        let mut played = records.map_err(&in_file)?;
+        let records = records.map_err(&in_file)?;
+        let mut played = records.clone();
 
-        let at_record =
-            |stopped: kerb::Stopped| Refused::of(About::Record(stopped.taken))(stopped.refusal);
+        let at_record = |stopped: kerb::Stopped| {
+            let Record { one, other, .. } = records[stopped.taken as usize];
+            Refused::of(About::Record(stopped.taken, [one, other]))(stopped.refusal)
+        };
         if let Some(at) = at {
             let taken = played.iter().take_while(|record| record.tick <= at);
             played.truncate(taken.count());

@@ -1,7 +1,7 @@
 //! What can stand in the way of an answer, in words, and the status that it ends with.
 
 use crate::json::Json;
-use kerb::Refusal;
+use kerb::{Refusal, UnitCell};
 use std::fmt;
 use std::io::{self, Write};
 
@@ -9,8 +9,8 @@ use std::io::{self, Write};
 #[derive(Clone, Debug)]
 pub enum About {
     File,
-    /// A record of the file, by its place from 0.
-    Record(u32),
+    /// A record of the file, by its place from 0, and the cells that it links.
+    Record(u32, [UnitCell; 2]),
     /// The tick of `--at`.
     Tick(u32),
     /// A cell or a setting of the command line.
@@ -40,12 +40,24 @@ impl Refused {
     pub fn json(&self) -> Json {
         let mut fields = vec![("refused", Json::from(self.refusal.number()))];
         match self.about {
-            About::Record(place) => fields.push(("record", Json::from(place))),
+            About::Record(place, _) => fields.push(("record", Json::from(place))),
             About::Tick(tick) => fields.push(("tick", Json::from(tick))),
             _ => (),
         }
+        if let Some([one, other]) = self.cells_apart() {
+            fields.push(("one", Json::from(one.0)));
+            fields.push(("other", Json::from(other.0)));
+        }
         fields.push(("meaning", Json::Text(self.refusal.meaning())));
         Json::Object(fields)
+    }
+
+    /// The cells of a record that is refused because they do not touch.
+    fn cells_apart(&self) -> Option<[UnitCell; 2]> {
+        match self.about {
+            About::Record(_, cells) if self.refusal == Refusal::Apart => Some(cells),
+            _ => None,
+        }
     }
 }
 
@@ -55,12 +67,17 @@ impl fmt::Display for Refused {
         let meaning = self.refusal.meaning();
         match &self.about {
             About::File => write!(f, "in the file: {meaning}"),
-            About::Record(place) => write!(f, "at record {place}: {meaning}"),
+            About::Record(place, _) => write!(f, "at record {place}: {meaning}"),
             About::Tick(tick) => write!(f, "at tick {tick}: {meaning}"),
             About::CommandLine => write!(f, "on the command line: {meaning}"),
             About::Text(fault) => write!(f, "in the text: {fault}"),
             About::Line(line, fault) => write!(f, "at line {line} (counted from 0): {fault}"),
-        }
+        }?;
+        let Some([one, other]) = self.cells_apart() else {
+            return Ok(());
+        };
+        let place = |of: UnitCell| format!("{} (ring {}, sector {})", of.0, of.ring(), of.sector());
+        write!(f, ": the unit's {} and {}", place(one), place(other))
     }
 }
 

@@ -209,6 +209,18 @@ fn refused_files_are_status_2_with_the_number_in_words() {
             "refused 5 256",
             "refused 5 at record 256: the link's slide already holds 256 links",
         ),
+        (
+            recording(settings, &[(10, 63, 64), (3, 63, 128)]),
+            "refused 14 1",
+            "refused 14 at record 1: the link's two cells do not touch: \
+             the unit's 63 (ring 0, sector 63) and 128 (ring 2, sector 0)\n",
+        ),
+        (
+            recording(settings, &[(5, 1023, 1023)]),
+            "refused 14 0",
+            "refused 14 at record 0: the link's two cells do not touch: \
+             the unit's 1023 (ring 15, sector 63) and 1023 (ring 15, sector 63)\n",
+        ),
     ] {
         let ran = kerb_fed(&["list"], &file);
         assert_eq!((ran.status, ran.out), (2, format!("{line}\n")));

@@ -4,9 +4,8 @@
 use crate::crossings::crossings;
 use crate::tally::{names, number, span, Spans, Tally, NUMBERS};
 use crate::ties::has_ties;
-use oracle::{History, Link, Settings, MIRRORED, SECTORS};
+use oracle::{History, Link, Refusal, Settings, MIRRORED, RINGS, SECTORS};
 use streams::hops::is_hop;
-use streams::touching::far;
 use streams::{Answer, Call};
 
 const B: &Spans = &[
@@ -66,7 +65,7 @@ pub fn tally() -> Tally {
     Tally::of(&[
         ("stream, calls", &STREAMS),
         ("opening, number", &["0", "2", "6"]),
-        ("link, number", &["0", "1", "3", "4", "5", "6"]),
+        ("link, number", &["0", "1", "3", "4", "5", "6", "14"]),
         ("clock, number", &["0", "1", "4", "6"]),
         ("joined, number", &["0", "1", "3"]),
         ("chain, number", &["0", "1", "3", "6", "7"]),
@@ -74,7 +73,7 @@ pub fn tally() -> Tally {
         ("writer, number", &["0", "2", "6", "9"]),
         (
             "listing, number",
-            &["0", "2", "3", "4", "5", "6", "9", "10", "11", "12"],
+            &["0", "2", "3", "4", "5", "6", "9", "10", "11", "12", "14"],
         ),
         ("opened, n", &NUMBERS[1..]),
         ("opened, mounting", &["1", "2"]),
@@ -86,10 +85,9 @@ pub fn tally() -> Tally {
         ),
         ("chunk", &["the same", "the next", "chunks jumped over"]),
         ("ticks moved", &HOPS),
-        (
-            "link taken",
-            &["new", "repeat", "far", "of a cell with itself"],
-        ),
+        ("link taken", &["new", "repeat"]),
+        ("its cells", &TOUCHING),
+        ("cells of number 14", &APART),
         (
             "end of a link, mirrored",
             &["dead ahead", "dead astern", "beside the axis"],
@@ -125,6 +123,55 @@ pub const STREAMS: [&str; 13] = [
     "files",
 ];
 
+/// How the two cells of a link lie that is taken.
+const TOUCHING: [&str; 5] = [
+    "side by side",
+    "side by side, 63 and 0",
+    "ring to ring",
+    "diagonal",
+    "diagonal, 63 and 0",
+];
+
+/// How two cells lie that do not touch.
+pub(crate) const APART: [&str; 5] = [
+    "the same cell",
+    "two sectors on",
+    "two rings on",
+    "rings 0 and 15",
+    "farther",
+];
+
+/// How many rings one cell lies from another, and how many sectors round the circle.
+fn rings_and_sectors(a: u32, b: u32) -> (u32, u32) {
+    let sectors = (a % SECTORS).abs_diff(b % SECTORS);
+    (
+        (a / SECTORS).abs_diff(b / SECTORS),
+        sectors.min(SECTORS - sectors),
+    )
+}
+
+fn touching(a: u32, b: u32) -> &'static str {
+    let over_the_end = (a % SECTORS).abs_diff(b % SECTORS) == SECTORS - 1;
+    match (rings_and_sectors(a, b), over_the_end) {
+        ((0, 1), false) => TOUCHING[0],
+        ((0, 1), true) => TOUCHING[1],
+        ((1, 0), _) => TOUCHING[2],
+        ((1, 1), false) => TOUCHING[3],
+        ((1, 1), true) => TOUCHING[4],
+        other => unreachable!("a link of cells that lie {other:?}"),
+    }
+}
+
+pub(crate) fn apart(a: u32, b: u32) -> &'static str {
+    match rings_and_sectors(a, b) {
+        (0, 0) => APART[0],
+        (0 | 1, 2) => APART[1],
+        (2, 0 | 1) => APART[2],
+        (rings, 0 | 1) if rings == RINGS - 1 => APART[3],
+        _ => APART[4],
+    }
+}
+
 /// How far the time can move at a time.
 pub(crate) const HOPS: [&str; 2] = ["a hop", "2^31 and more"];
 
@@ -158,6 +205,11 @@ pub fn count(
     answer: &Answer,
 ) {
     tally.count(number_row(call), number(answer.number()));
+    if let Call::Link { a, b, .. } = call {
+        if answer.number() == Refusal::Apart.number() {
+            tally.count("cells of number 14", apart(*a, *b));
+        }
+    }
     let history = match history {
         Some(history) if answer.number() == 0 => history,
         _ => return,
@@ -243,16 +295,9 @@ fn count_link(tally: &mut Tally, history: &History) {
         .split_last()
         .expect("the link that was taken");
     let pair = |of: &Link| (of.a.min(of.b), of.a.max(of.b));
-    let kind = if link.a == link.b {
-        "of a cell with itself"
-    } else if far(link.a, link.b) {
-        "far"
-    } else if others.iter().any(|other| pair(other) == pair(link)) {
-        "repeat"
-    } else {
-        "new"
-    };
-    tally.count("link taken", kind);
+    let repeat = others.iter().any(|other| pair(other) == pair(link));
+    tally.count("link taken", if repeat { "repeat" } else { "new" });
+    tally.count("its cells", touching(link.a, link.b));
     if history.settings.mounting == MIRRORED {
         for end in [link.a, link.b] {
             let place = match end % SECTORS {

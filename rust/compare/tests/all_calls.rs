@@ -8,11 +8,13 @@ use compare::altered::order::disorder;
 use compare::altered::{books, calls as altered_calls, said};
 use compare::{run, Difference, Lockstep, State};
 use kerb::calls;
-use oracle::{History, Record, CELLS, LOG_PLACES};
+use oracle::{History, Record, Refusal, CELLS, LOG_PLACES};
 use streams::files::{edge_files, every_field, file_of, valid_file, Files};
 use streams::{built, draw_settings, lent_bytes, lent_places, Call, Dice, Kind, Random};
 
 const ALL: usize = CELLS as usize;
+/// Numbers that a call can give: 0 to 14.
+const NUMBERS: usize = Refusal::Apart as usize + 1;
 
 // Cells.
 
@@ -207,7 +209,7 @@ fn ticks_of(history: &History, slide: u64) -> (bool, u32, u32) {
 #[test]
 fn groups_and_slides_of_random_streams() {
     let mut dice = Dice::new(run::seed());
-    let mut numbers = [0; 13];
+    let mut numbers = [0; NUMBERS];
     for kind in [
         Kind::Few,
         Kind::All,
@@ -266,7 +268,7 @@ fn groups_and_slides_of_built_streams() {
 fn groups_and_slides_of_altered_books() {
     let mut dice = Dice::new(run::seed());
     let left = books::left_by_calls(dice.bits());
-    let mut numbers = [0; 13];
+    let mut numbers = [0; NUMBERS];
     for _ in 0..2_000 {
         let state = books::draw(&mut dice, &left).state;
         let in_order = disorder(&state.book).is_none();
@@ -355,7 +357,7 @@ fn opened_for(file: &[u8]) -> Lockstep {
 #[test]
 fn playing_random_files() {
     let mut dice = Dice::new(run::seed());
-    let mut numbers = [0; 13];
+    let mut numbers = [0; NUMBERS];
     for call in Files::new(dice.bits()).take(300) {
         if let Call::Read { file } = call {
             let (_, number) = compare_play(&mut opened_for(&file), &file, LOG_PLACES);
@@ -363,7 +365,7 @@ fn playing_random_files() {
         }
     }
     println!("playing random files, by number: {numbers:?}");
-    for number in [0, 2, 3, 4, 9, 10, 11, 12] {
+    for number in [0, 2, 3, 4, 9, 10, 11, 12, 14] {
         assert!(numbers[number] > 0, "number {number} never seen");
     }
 }
@@ -382,7 +384,7 @@ fn playing_edge_files_and_files_with_each_field_damaged() {
 #[test]
 fn playing_into_any_book() {
     let mut dice = Dice::new(run::seed());
-    let mut numbers = [0; 13];
+    let mut numbers = [0; NUMBERS];
     for round in 0..60 {
         let file = valid_file(&mut dice);
         let mut books = match round % 3 {
@@ -430,7 +432,7 @@ fn playing_keeps_what_stands_before_a_refused_record() {
 fn playing_into_altered_books() {
     let mut dice = Dice::new(run::seed());
     let left = books::left_by_calls(dice.bits());
-    let mut numbers = [0; 13];
+    let mut numbers = [0; NUMBERS];
     for _ in 0..3_000 {
         let altered = books::draw(&mut dice, &left);
         let mut state = altered.state;
@@ -457,7 +459,7 @@ fn playing_into_altered_books() {
         numbers[answer.1 as usize] += 1;
     }
     println!("playing into altered books, by number: {numbers:?}");
-    for number in [0, 1, 3, 4, 5] {
+    for number in [0, 1, 3, 4, 5, 14] {
         assert!(numbers[number] > 0, "number {number} never seen");
     }
 }

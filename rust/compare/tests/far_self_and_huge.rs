@@ -6,42 +6,47 @@ use common::*;
 use oracle::in_lorrys_numbers;
 use streams::files::file_of;
 
-/// A link of two cells that do not touch is taken as any other.
-#[test]
-fn far_links() {
+/// What is refused with 14 counts for nothing: not in the slide, not in the window,
+/// and not for the time. So a file stops there.
+fn refused_with_14(pairs: &[(u16, u16)]) {
     for mounting in 1..=2 {
         let mut books = opened(settings(3, 10, mounting, 0));
-        for (a, b) in [(1, 3), (1, 129), (0, 62), (0, 960), (5, 1023)] {
-            assert_eq!(link(&mut books, 0, a, b), 0);
-            assert_eq!(link(&mut books, 0, b, a), 0);
+        assert_eq!(link(&mut books, 5, 1, 2), 0);
+        for &(a, b) in pairs {
+            let (a, b) = (u32::from(a), u32::from(b));
+            for tick in [0, 5, 90] {
+                assert_eq!(link(&mut books, tick, a, b), 14);
+                assert_eq!(link(&mut books, tick, b, a), 14);
+            }
+            let [first, second] = [a, b].map(|cell| in_lorrys_numbers(cell, mounting));
+            assert_eq!(joined(&mut books, first, second).1, a == b);
         }
-        let [first, middle, last] = [3, 1, 129].map(|cell| in_lorrys_numbers(cell, mounting));
-        assert!(joined(&mut books, first, last).1);
-        let cells = [first, middle, last].map(|cell| cell as u16).to_vec();
-        assert_eq!(chain(&mut books, first, last), (0, 0, 2, cells));
+        for _ in 1..256 {
+            assert_eq!(link(&mut books, 5, 2, 1), 0);
+        }
+        let (a, b) = pairs[0];
+        assert_eq!(link(&mut books, 5, u32::from(a), u32::from(b)), 14);
+        assert_eq!(link(&mut books, 5, 1, 2), 5);
+        for &(a, b) in pairs {
+            let links = [(0, 1, 2), (5, a, b), (20, 2, 3)];
+            let file = file_of(settings(3, 10, mounting, 0), &records(&links));
+            assert_eq!(listing(&file), "refused 14 1\n");
+        }
     }
-    let file = file_of(settings(3, 10, 1, 0), &records(&[(0, 1, 2), (5, 2, 900)]));
-    assert_eq!(listing(&file), "window 3 10 1 0\ngroup 1 3 2\nlinks 2\n");
 }
 
-/// A link of a cell with itself is stored and counted, and joins nothing.
+/// A link of two cells that do not touch.
+#[test]
+fn far_links() {
+    refused_with_14(&[(1, 3), (1, 129), (0, 62), (0, 960), (63, 128), (5, 1023)]);
+}
+
+/// A link of a cell with itself.
 #[test]
 fn self_links() {
-    for mounting in 1..=2 {
-        let mut books = opened(settings(3, 10, mounting, 0));
-        for cell in [0, 63, 500, 1023] {
-            assert_eq!(link(&mut books, 0, cell, cell), 0);
-            assert_eq!(joined(&mut books, cell, cell), (0, true, 0));
-        }
-        for _ in 4..256 {
-            assert_eq!(link(&mut books, 0, 9, 9), 0);
-        }
-        assert_eq!(link(&mut books, 0, 9, 9), 5);
-        assert_eq!(link(&mut books, 0, 9, 10), 5);
-        assert_eq!(link(&mut books, 0, 1024, 1024), 3);
-    }
-    let file = file_of(settings(3, 10, 1, 0), &records(&[(0, 1, 2), (5, 9, 9)]));
-    assert_eq!(listing(&file), "window 3 10 1 0\ngroup 1 2 2\nlinks 2\n");
+    refused_with_14(&[(9, 9), (0, 0), (63, 63), (500, 500), (1023, 1023)]);
+    let mut books = opened(settings(3, 10, 1, 0));
+    assert_eq!(link(&mut books, 0, 1024, 1024), 3);
 }
 
 /// The time jumps by 2^31 ticks and more at once, and never back.

@@ -51,9 +51,9 @@ fn opening_2_6() {
 }
 
 #[test]
-fn link_1_6_3_4_5() {
+fn link_1_6_3_14_4_5() {
     for faults in all_sets() {
-        let [never_opened, short, bad_cell, old_tick, full] = faults;
+        let [never_opened, short, bad_cell, apart, old_tick, full] = faults;
         let call = Call::Link {
             tick: match (old_tick, full) {
                 (false, false) => 55,
@@ -61,12 +61,12 @@ fn link_1_6_3_4_5() {
                 (true, false) => 44,
                 (true, true) => 49,
             },
-            a: 1022,
+            a: if apart { 63 } else { 1022 },
             b: if bad_cell { 1024 } else { 1023 },
             log_places: log_places(short),
         };
         let given = number(&mut book(never_opened), call);
-        assert_eq!(given, first([1, 6, 3, 4, 5], faults));
+        assert_eq!(given, first([1, 6, 3, 14, 4, 5], faults));
     }
 }
 

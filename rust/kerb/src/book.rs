@@ -57,7 +57,8 @@ impl Book {
 
     /// The book and the log that were stored: `raw` and `log` of another book. Refuses a log that is too short, and a book that
     /// is not in order. Whether the two belong together nobody can see; nor whether a mirrored book was stored before 0.2.2, when
-    /// its links stood at other cells: such a book is to be opened anew.
+    /// its links stood at other cells: such a book is to be opened anew. One that was stored before 0.2.3 may hold links of cells
+    /// that do not touch; they count until they leave the window.
     pub fn stored(raw: RawBook, log: Vec<u16>) -> Result<Book, Refusal> {
         if log.len() < LOG_PLACES {
             return Err(Refusal::Short);
@@ -69,7 +70,16 @@ impl Book {
         })
     }
 
-    /// A link of two cells at a tick.
+    /// A link of two cells that touch, at a tick.
+    ///
+    /// ```
+    /// # use kerb::{Book, Mounting, Refusal, Settings, UnitCell};
+    /// # let settings = Settings { t0: 0, b: 10, n: 3, mounting: Mounting::Plain };
+    /// let mut book = Book::open(settings)?;
+    /// book.link(20, UnitCell(63), UnitCell(64))?;
+    /// assert_eq!(book.link(20, UnitCell(0), UnitCell(960)), Err(Refusal::Apart));
+    /// # Ok::<(), Refusal>(())
+    /// ```
     pub fn link(&mut self, tick: u32, one: UnitCell, other: UnitCell) -> Result<(), Refusal> {
         self.raw.link(&mut self.log, tick, one, other)
     }

@@ -30,7 +30,7 @@ impl RawBook {
         Refusal::unless_done(calls::opening(self, log, settings.raw()))
     }
 
-    /// A link of two cells at a tick.
+    /// A link of two cells that touch, at a tick.
     pub fn link(
         &mut self,
         log: &mut [u16],

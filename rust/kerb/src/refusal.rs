@@ -24,6 +24,7 @@ pub enum Refusal {
     Offset = 11,
     Pad = 12,
     Line = 13,
+    Apart = 14,
 }
 
 impl Refusal {
@@ -48,6 +49,7 @@ impl Refusal {
             Refusal::Offset => "the file's offset and count do not agree with its length",
             Refusal::Pad => "a pad byte of the file is not zero",
             Refusal::Line => "a line of the text breaks the form",
+            Refusal::Apart => "the link's two cells do not touch",
         }
     }
 
@@ -67,6 +69,7 @@ impl Refusal {
             11 => Refusal::Offset,
             12 => Refusal::Pad,
             13 => Refusal::Line,
+            14 => Refusal::Apart,
             _ => unreachable!("the library gives no number {number}"),
         };
         Err(refusal)
@@ -88,7 +91,7 @@ mod tests {
     #[test]
     fn a_number_gives_the_refusal_of_that_number() {
         assert_eq!(Refusal::unless_done(0), Ok(()));
-        for number in 1..=13 {
+        for number in 1..=14 {
             let refusal = Refusal::unless_done(number).unwrap_err();
             assert_eq!(refusal.number(), number);
         }

@@ -20,6 +20,7 @@ fn refusals_say_what_the_header_says() {
         Refusal::Offset,
         Refusal::Pad,
         Refusal::Line,
+        Refusal::Apart,
     ] {
         let line = format!("{refusal}");
         assert!(printed.lines().any(|of| of == line), "{line}");

@@ -1,6 +1,6 @@
 //! "Time, slides, window": opening, link and clock, and which links are meant.
 
-use crate::cells::{both_are_cells, in_lorrys_numbers, MIRRORED, PLAIN};
+use crate::cells::{both_are_cells, both_touch, in_lorrys_numbers, MIRRORED, PLAIN};
 use crate::refusal::{refuse_if, Refusal};
 
 /// The log needs this many 16-bit places.
@@ -88,12 +88,13 @@ impl Book {
         Ok(())
     }
 
-    /// Link: 1, 6, 3, 4, 5. The cells come in the unit's numbers. Nothing at
+    /// Link: 1, 6, 3, 14, 4, 5. The cells come in the unit's numbers. Nothing at
     /// all changes before the last check, so a refused link moves no time.
     pub fn link(&mut self, tick: u32, a: u32, b: u32, log_places: usize) -> Result<(), Refusal> {
         let history = self.history.as_mut().ok_or(Refusal::NeverOpened)?;
         long_enough(log_places, LOG_PLACES)?;
         both_are_cells(a, b)?;
+        both_touch(a, b)?;
         history.not_before_time(tick)?;
         let slide = history.settings.slide_of(tick);
         history.has_room(slide)?;

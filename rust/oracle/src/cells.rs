@@ -40,6 +40,29 @@ pub fn in_lorrys_numbers(cell: u32, mounting: u32) -> u32 {
     }
 }
 
+/// The cells that touch one: the rings next to its own, as far as there are, with
+/// the sectors next to its own round the circle, and not the cell itself. So 8 of
+/// them, or 5 in the first and the last ring.
+pub fn touching_cells(cell: u32) -> Vec<u32> {
+    let (ring, sector) = (cell / SECTORS, cell % SECTORS);
+    let rings = ring.saturating_sub(1)..=(ring + 1).min(RINGS - 1);
+    let beside = [SECTORS - 1, 0, 1].map(|more| (sector + more) % SECTORS);
+    rings
+        .flat_map(|ring| beside.map(|sector| SECTORS * ring + sector))
+        .filter(|&other| other != cell)
+        .collect()
+}
+
+/// Whether two cells touch.
+pub fn touch(first: u32, second: u32) -> bool {
+    touching_cells(first).contains(&second)
+}
+
+/// Number 14: two cells that don't touch.
+pub(crate) fn both_touch(first: u32, second: u32) -> Result<(), Refusal> {
+    refuse_if(!touch(first, second), Refusal::Apart)
+}
+
 #[cfg(test)]
 mod tests {
     use super::*;
@@ -81,6 +104,47 @@ mod tests {
     fn only_mounting_2_mirrors() {
         assert_eq!(in_lorrys_numbers(5, PLAIN), 5);
         assert_eq!(in_lorrys_numbers(5, MIRRORED), 59);
+    }
+
+    #[test]
+    fn rings_end_and_sectors_go_round() {
+        assert!(touch(70, 71) && touch(70, 6) && touch(70, 133) && touch(70, 135));
+        assert!(touch(0, 63) && touch(0, 127) && touch(63, 64));
+        assert!(!touch(70, 70) && !touch(70, 72) && !touch(6, 134));
+        assert!(!touch(0, 960) && !touch(5, 1023) && !touch(1023, 0));
+    }
+
+    /// The request's words, with the differences that it speaks of: different cells,
+    /// rings that differ by at most 1, sectors that do round the circle.
+    #[test]
+    fn the_words_of_the_request_at_every_pair() {
+        for a in 0..CELLS {
+            for b in 0..CELLS {
+                let rings = (a / SECTORS).abs_diff(b / SECTORS);
+                let sectors = (a % SECTORS).abs_diff(b % SECTORS);
+                let near = sectors <= 1 || sectors == 63;
+                assert_eq!(touch(a, b), a != b && rings <= 1 && near);
+            }
+        }
+    }
+
+    #[test]
+    fn touching_goes_both_ways_and_through_the_mirror() {
+        for a in 0..CELLS {
+            for b in 0..CELLS {
+                assert_eq!(touch(a, b), touch(b, a));
+                assert_eq!(touch(a, b), touch(mirrored(a), mirrored(b)));
+            }
+        }
+    }
+
+    #[test]
+    fn a_cell_touches_8_others_and_at_the_edges_5() {
+        for cell in 0..CELLS {
+            let between_rings = (1..RINGS - 1).contains(&(cell / SECTORS));
+            let cells = touching_cells(cell).len();
+            assert_eq!(cells, if between_rings { 8 } else { 5 });
+        }
     }
 
     #[test]

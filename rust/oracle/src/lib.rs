@@ -1,7 +1,7 @@
 //! An independent reading of the document "The intended build and its rules".
 //!
-//! This program was written from that page alone, and the text lists and the
-//! mirror rule from the requests for them. It keeps the plain list of all
+//! This program was written from that page alone, and the text lists, the mirror
+//! rule and which cells touch from the requests for them. It keeps the plain list of all
 //! accepted links and searches the window's links afresh for every question. The
 //! two forests are built for the step counts only, link by link as the rules say,
 //! and thrown away again. Nothing is remembered from one question to the next.
@@ -28,7 +28,10 @@ mod search;
 mod text;
 
 pub use book::{Book, History, Link, Settings, LINKS_PER_SLIDE, LOG_PLACES};
-pub use cells::{in_lorrys_numbers, is_cell, mirrored, CELLS, MIRRORED, PLAIN, RINGS, SECTORS};
+pub use cells::{
+    in_lorrys_numbers, is_cell, mirrored, touch, touching_cells, CELLS, MIRRORED, PLAIN, RINGS,
+    SECTORS,
+};
 pub use chain::{Chain, CHAIN_PLACES};
 pub use file::{
     file_length, play, read, record, record_bytes, write, FileHead, PlayRefused, Record,

@@ -29,6 +29,8 @@ pub enum Refusal {
     Pad = 12,
     /// A line of the text breaks the form.
     Line = 13,
+    /// Two cells that don't touch.
+    Apart = 14,
 }
 
 impl Refusal {

@@ -5,29 +5,35 @@ mod common;
 use common::*;
 use oracle::*;
 
-/// The page lets any two cells link.
+/// A link is taken only between two different cells that touch. One that is refused
+/// leaves no trace, and a file stops at it.
 #[test]
 fn far_links() {
-    let mut book = opened(2, 10, PLAIN, 0);
-    links(&mut book, &[(0, 0, 2), (0, 2, 960), (0, 5, 1023)]);
-    assert!(joined(&book, 0, 960).0);
-    assert_eq!(chain(&book, 960, 0), Ok((0, 1, vec![960, 2, 0])));
-    assert_eq!(chain(&book, 5, 1023), Ok((0, 1, vec![5, 1023])));
+    let mut book = opened(2, 10, PLAIN, 5);
+    for (a, b) in [(0, 2), (2, 960), (0, 960), (0, 128), (63, 128), (5, 1023)] {
+        assert_eq!(link(&mut book, 90, a, b), 14);
+        assert!(!joined(&book, a, b).0);
+    }
+    for (a, b) in [(0, 63), (63, 64), (127, 0), (1023, 958)] {
+        assert_eq!(link(&mut book, 5, a, b), 0);
+        assert!(joined(&book, a, b).0);
+    }
+    // 3 comes before it and 4 after it.
+    assert_eq!(link(&mut book, 4, 0, 1024), 3);
+    assert_eq!(link(&mut book, 4, 0, 2), 14);
+    assert_eq!(link(&mut book, 4, 0, 1), 4);
+    let text = listing(&file(settings(2, 10, PLAIN, 0), &[(0, 8, 9), (0, 8, 10)]));
+    assert_eq!(text, "refused 14 1\n");
 }
 
-/// A link of a cell with itself is stored and counted, and joins nothing.
+/// No cell touches itself.
 #[test]
 fn self_links() {
     let mut book = opened(1, 10, PLAIN, 0);
-    for _ in 0..256 {
-        assert_eq!(link(&mut book, 0, 9, 9), 0);
-    }
-    assert_eq!(link(&mut book, 0, 9, 9), 5);
-    assert_eq!(joined(&book, 9, 9), (true, 0));
-    assert_eq!(chain(&book, 9, 9), Ok((1, 1, vec![9])));
-    let set = settings(1, 10, PLAIN, 0);
-    let text = listing(&file(set, &[(0, 9, 9), (0, 9, 9), (0, 8, 9)]));
-    assert_eq!(text, "window 1 10 1 0\ngroup 8 2 0\nlinks 3\n");
+    assert_eq!(link(&mut book, 0, 9, 9), 14);
+    assert_eq!(history(&book).links.len(), 0);
+    let text = listing(&file(settings(1, 10, PLAIN, 0), &[(0, 9, 9), (0, 8, 9)]));
+    assert_eq!(text, "refused 14 0\n");
 }
 
 /// Slides jumped over are empty, however many: 2^31 ticks and more at once. A tick

@@ -15,10 +15,10 @@
 use crate::call::Call;
 use crate::dice::Dice;
 use crate::hops::{within_a_hop, LONGEST_HOP};
-use crate::touching::{far, patch, path, touching_cell, touching_cell_of, touching_cells};
+use crate::touching::{far, patch, path, touching_cell, touching_cell_of};
 use oracle::{
-    in_lorrys_numbers, CellSet, Settings, CELLS, CHAIN_PLACES, LINKS_PER_SLIDE, LOG_PLACES, RINGS,
-    SECTORS,
+    in_lorrys_numbers, touching_cells, CellSet, Settings, CELLS, CHAIN_PLACES, LINKS_PER_SLIDE,
+    LOG_PLACES, RINGS, SECTORS,
 };
 
 /// A link in the lorry's numbers.
@@ -397,7 +397,7 @@ pub fn last_ticks(n: u32, mounting: u32, seed: u64) -> Vec<Call> {
 }
 
 /// Two stretches of a path with links along each, and in each slide of a window a
-/// link from one to the other, of cells that do not touch.
+/// link from one to the other, of cells that do not touch: it is refused.
 pub fn far_links(settings: Settings, first_slide: u64, seed: u64) -> Vec<Call> {
     let mut script = Script::opened(settings, seed);
     let n = script.n();
@@ -414,13 +414,15 @@ pub fn far_links(settings: Settings, first_slide: u64, seed: u64) -> Vec<Call> {
         script.link(slide, pair);
         script.both_questions(pair.0, pair.1);
         script.both_questions(one[0], other[0]);
+        script.some_questions(one[0], one, 5);
     }
     script.run_out(first_slide + n - 1, (one[0], other[0]), &cells[..20]);
     script.calls
 }
 
 /// Links of cells with themselves between links of a patch, in each slide of a
-/// window. They alone fill the last one up, and there is one too many.
+/// window; they are refused, and do not count. In the last slide there are more of
+/// them than a slide takes, and still it is not full.
 pub fn self_links(settings: Settings, first_slide: u64, seed: u64) -> Vec<Call> {
     let mut script = Script::opened(settings, seed);
     let n = script.n();
@@ -435,9 +437,11 @@ pub fn self_links(settings: Settings, first_slide: u64, seed: u64) -> Vec<Call> 
         }
         script.some_questions(cells[0], &cells, 5);
     }
-    for _ in 0..LINKS_PER_SLIDE - 7 {
+    for _ in 0..=LINKS_PER_SLIDE {
         script.link(last_slide, (cells[0], cells[0]));
     }
+    let pair = draw_pair(&mut script.dice, &cells);
+    script.link(last_slide, pair);
     script.some_questions(cells[0], &cells, 5);
     script.run_out(last_slide, (cells[0], cells[9]), &cells);
     script.calls

@@ -186,8 +186,8 @@ pub fn damage(dice: &mut Dice, file: &mut Vec<u8>) {
 }
 
 /// Damages one field of a file of at least 24 bytes. A damaged T0, tick or byte
-/// may leave the file good, and so may a far link, a self link and, in the last
-/// record, a huge jump; the others are refused, where the field exists. Ticks stay
+/// may leave the file good, and so may a huge jump in the last record; the others
+/// are refused, where the field exists, by the reader or in playing. Ticks stay
 /// within a hop of those beside them, but for the jump, and any byte may be that
 /// of a tick or of a cell.
 pub fn damage_field(dice: &mut Dice, file: &mut Vec<u8>, field: Field) {

@@ -1,32 +1,13 @@
-//! Cells that touch. Links are drawn from these; only the streams that are named
-//! for far links or for self links have others.
+//! Cells that touch, by the oracle's rule. Links are drawn from these; only the
+//! streams that are named for far links or for self links have others, which are
+//! refused.
 
 use crate::dice::Dice;
-use oracle::{CELLS, RINGS, SECTORS};
-
-/// Whether two cells touch: they differ, their rings by at most 1 and their
-/// sectors by at most 1 round the circle, where 63 and 0 are neighbours. Two
-/// cells touch exactly when their mirrored cells do.
-pub fn touch(a: u32, b: u32) -> bool {
-    let rings = (a / SECTORS).abs_diff(b / SECTORS);
-    let sectors = (a % SECTORS).abs_diff(b % SECTORS);
-    a != b && rings <= 1 && (sectors <= 1 || sectors == SECTORS - 1)
-}
+use oracle::{touch, touching_cells, CELLS, SECTORS};
 
 /// Whether a link of the two is a far one: two different cells that do not touch.
 pub fn far(a: u32, b: u32) -> bool {
     a != b && !touch(a, b)
-}
-
-/// The cells that touch one: 8 of them, or 5 in the first and the last ring.
-pub fn touching_cells(cell: u32) -> Vec<u32> {
-    let (ring, sector) = (cell / SECTORS, cell % SECTORS);
-    let rings = ring.saturating_sub(1)..=(ring + 1).min(RINGS - 1);
-    let beside = [SECTORS - 1, 0, 1].map(|more| (sector + more) % SECTORS);
-    rings
-        .flat_map(|ring| beside.map(|sector| SECTORS * ring + sector))
-        .filter(|&other| touch(cell, other))
-        .collect()
 }
 
 /// One of the cells that touch one.
@@ -40,10 +21,18 @@ pub fn touching_cell_of(dice: &mut Dice, patch: &[u32], cell: u32) -> u32 {
     dice.pick(&beside.collect::<Vec<u32>>())
 }
 
-/// Any cell that lies far from one.
+/// A cell that lies far from one: any, or one that a slip in the rule would take for
+/// a neighbour. By the number it is up to two rings and two sectors on or back, so
+/// that it may lie beyond the last ring or beyond the end of its own.
 pub fn far_cell(dice: &mut Dice, cell: u32) -> u32 {
     loop {
-        let other = dice.cell();
+        let (rings, sectors) = (dice.below(5) as u32, dice.below(5) as u32);
+        let on = CELLS + SECTORS * rings + sectors - 2 * SECTORS - 2;
+        let other = if dice.one_in(2) {
+            dice.cell()
+        } else {
+            (cell + on) % CELLS
+        };
         if far(cell, other) {
             return other;
         }
@@ -84,37 +73,11 @@ pub fn path(dice: &mut Dice) -> Vec<u32> {
 #[cfg(test)]
 mod tests {
     use super::*;
-    use oracle::mirrored;
     use std::collections::BTreeSet;
 
     #[test]
-    fn rings_end_and_sectors_go_round() {
-        assert!(touch(70, 71) && touch(70, 6) && touch(70, 133) && touch(70, 135));
-        assert!(touch(0, 63) && touch(0, 127) && touch(63, 64));
-        assert!(!touch(70, 70) && !touch(70, 72) && !touch(6, 134));
-        assert!(!touch(0, 960) && !touch(5, 1023) && !touch(1023, 0));
+    fn a_cell_and_itself_are_not_far() {
         assert!(far(70, 72) && !far(70, 70) && !far(70, 71));
-    }
-
-    #[test]
-    fn touching_goes_both_ways_and_through_the_mirror() {
-        for a in 0..CELLS {
-            for b in 0..CELLS {
-                assert_eq!(touch(a, b), touch(b, a));
-                assert_eq!(touch(a, b), touch(mirrored(a), mirrored(b)));
-            }
-        }
-    }
-
-    #[test]
-    fn all_cells_that_touch_are_listed() {
-        for cell in 0..CELLS {
-            let all: BTreeSet<u32> = (0..CELLS).filter(|&other| touch(cell, other)).collect();
-            let listed = touching_cells(cell);
-            let between_rings = (1..RINGS - 1).contains(&(cell / SECTORS));
-            assert_eq!(listed.len(), if between_rings { 8 } else { 5 });
-            assert_eq!(listed.into_iter().collect::<BTreeSet<u32>>(), all);
-        }
     }
 
     #[test]

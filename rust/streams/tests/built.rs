@@ -27,9 +27,11 @@ struct Reached {
     yes: u32,
     no: u32,
     full_slides: u32,
+    apart: u32,
 }
 
-/// Runs a stream. Only a full slide may refuse in it, and that is counted.
+/// Runs a stream. Only full slides and cells that do not touch may be refused in it,
+/// and they are counted.
 fn run(calls: &[Call]) -> Reached {
     let mut book = Book::new();
     let mut reached = Reached::default();
@@ -56,8 +58,9 @@ fn run(calls: &[Call]) -> Reached {
                 reached.cells = reached.cells.max(cells);
             }
             (_, answer) => {
-                assert!([0, 5].contains(&answer.number()), "{:?}", call);
+                assert!([0, 5, 14].contains(&answer.number()), "{:?}", call);
                 reached.full_slides += u32::from(answer.number() == 5);
+                reached.apart += u32::from(answer.number() == 14);
             }
         }
     }
@@ -235,8 +238,10 @@ fn all_built_streams_run() {
     for (name, calls) in &streams {
         let reached = run(calls);
         assert!(reached.yes > 0, "{}", name);
-        let full = name.starts_with("full log") || name.starts_with("self links");
+        let full = name.starts_with("full log");
         assert_eq!(reached.full_slides > 0, full, "{}", name);
+        let apart = name.starts_with("far links") || name.starts_with("self links");
+        assert_eq!(reached.apart > 0, apart, "{}", name);
         most.steps_itself = most.steps_itself.max(reached.steps_itself);
         most.steps_two = most.steps_two.max(reached.steps_two);
         most.cells = most.cells.max(reached.cells);

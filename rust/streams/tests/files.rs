@@ -59,8 +59,8 @@ fn every_damaged_field_earns_its_number() {
         if field == Field::FullSlide && file.len() > 24 + 8 * 256 {
             assert_eq!(refused, Some(Refusal::SlideFull));
         }
-        if [Field::FarLink, Field::SelfLink].contains(&field) {
-            assert_eq!(refused, None);
+        if [Field::FarLink, Field::SelfLink].contains(&field) && file.len() > 24 {
+            assert_eq!(refused, Some(Refusal::Apart));
         }
         if field == Field::HugeJump {
             // Ahead it is taken, back it lies before the book's time.
@@ -68,7 +68,7 @@ fn every_damaged_field_earns_its_number() {
         }
         numbers.extend(refused.map(Refusal::number));
     }
-    assert_eq!(numbers, BTreeSet::from([0, 2, 3, 4, 5, 9, 10, 11, 12]));
+    assert_eq!(numbers, BTreeSet::from([0, 2, 3, 4, 5, 9, 10, 11, 12, 14]));
 }
 
 #[test]
@@ -85,7 +85,8 @@ fn calls_with_files_give_every_number() {
     }
     assert_eq!(read, BTreeSet::from([0, 2, 9, 10, 11, 12]));
     assert_eq!(write, BTreeSet::from([0, 2, 6, 9]));
-    assert_eq!(list, BTreeSet::from([0, 2, 3, 4, 5, 6, 9, 10, 11, 12]));
+    let of_list = BTreeSet::from([0, 2, 3, 4, 5, 6, 9, 10, 11, 12, 14]);
+    assert_eq!(list, of_list);
     assert_eq!(book, Book::new());
 }
 

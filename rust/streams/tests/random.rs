@@ -1,6 +1,6 @@
 //! The random streams: the same for a seed, and wide enough.
 
-use oracle::{Book, LOG_PLACES};
+use oracle::{touch, Book, LOG_PLACES};
 use std::collections::{BTreeMap, BTreeSet};
 use streams::{ask, Answer, Call, Kind, Random};
 
@@ -55,7 +55,11 @@ fn every_call_gives_every_number() {
             }
         }
         assert_eq!(given["opening"], BTreeSet::from([0, 2, 6]));
-        assert_eq!(given["link"], BTreeSet::from([0, 1, 3, 4, 5, 6]));
+        let mut of_link = BTreeSet::from([0, 1, 3, 4, 5, 6]);
+        if [Kind::FarLinks, Kind::SelfLinks].contains(&kind) {
+            of_link.insert(14);
+        }
+        assert_eq!(given["link"], of_link);
         assert_eq!(given["clock"], BTreeSet::from([0, 1, 4, 6]));
         assert_eq!(given["joined"], BTreeSet::from([0, 1, 3]));
         assert_eq!(given["chain"], BTreeSet::from([0, 1, 3, 6, 7]));
@@ -64,10 +68,11 @@ fn every_call_gives_every_number() {
 
 #[test]
 fn refusals_come_together_so_that_their_order_shows() {
-    // (short log, bad cell, old tick) of links to an opened book.
+    // (short log, bad cell, cells apart, old tick) of links to an opened book. A
+    // number that is no cell touches none; it counts as bad, and not as apart.
     let mut together = BTreeSet::new();
     let mut book = Book::new();
-    for call in Random::new(3, Kind::Few).take(60_000) {
+    for call in Random::new(3, Kind::FarLinks).take(60_000) {
         if let (
             Call::Link {
                 tick,
@@ -80,11 +85,12 @@ fn refusals_come_together_so_that_their_order_shows() {
         {
             let short = *log_places < LOG_PLACES;
             let bad = *a > 1023 || *b > 1023;
-            together.insert((short, bad, *tick < history.time));
+            let apart = !bad && !touch(*a, *b);
+            together.insert((short, bad, apart, *tick < history.time));
         }
         ask(&mut book, &call);
     }
-    assert_eq!(together.len(), 8, "{:?}", together);
+    assert_eq!(together.len(), 12, "{:?}", together);
 }
 
 /// What a stream went through.

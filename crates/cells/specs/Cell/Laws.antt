@@ -28,17 +28,17 @@ injective f twice a b e = sym (twice a) ∙ ap f e ∙ twice b
 
 module _ (sectors : ℕ) where
   -- sector 0 stays
-  rule-zero : mirrorSector sectors 0 ≡ 0
+  pub rule-zero : mirrorSector sectors 0 ≡ 0
   unfolding mirrorSector
   rule-zero = rw (sub-zero, mod-self)
 
   -- and every other becomes the number of sectors less it
-  rule-other : (s : ℕ) → 0 < s → s < sectors → mirrorSector sectors s ≡ sectors - s
+  pub rule-other : (s : ℕ) → 0 < s → s < sectors → mirrorSector sectors s ≡ sectors - s
   unfolding mirrorSector
   rule-other s pos h = mod-eq-of-lt (omega arith)
 
   -- the rule keeps to the sectors
-  rule-below : (s : ℕ) → s < sectors → mirrorSector sectors s < sectors
+  pub rule-below : (s : ℕ) → s < sectors → mirrorSector sectors s < sectors
   unfolding mirrorSector
   rule-below s h = mod-lt (sectors - s) (omega arith)
 
@@ -64,7 +64,7 @@ module _ (sectors : ℕ) where
     sectors-pos : 0 < sectors
     sectors-pos = omega arith
 
-    sector-below : sectorOf sectors c < sectors
+    pub sector-below : sectorOf sectors c < sectors
     sector-below = mod-lt c sectors-pos
 
     mirror-at : mirrorOver sectors c ≡ cellAt sectors (ringOf sectors c) (mirrorSector sectors (sectorOf sectors c))
@@ -122,7 +122,7 @@ module _ (sectors : ℕ) where
   lorry-mirrored c = refl
 
   -- what holds of the plain and of the mirrored numbers holds of the lorry's, whatever the mounting
-  by-mounting : (P : (ℕ → ℕ) → Type 0) → P (λ c. c) → P (mirrorOver sectors) → (mounting : ℕ) → P (lorryCellOver sectors mounting)
+  pub by-mounting : (P : (ℕ → ℕ) → Type 0) → P (λ c. c) → P (mirrorOver sectors) → (mounting : ℕ) → P (lorryCellOver sectors mounting)
   unfolding lorryCellOver
   by-mounting P plain mirrored mounting =
       elim (eqb mounting 2) as (λ b. P (λ c. cond b (mirrorOver sectors c) c)) [ true ↦ mirrored | false ↦ plain ]

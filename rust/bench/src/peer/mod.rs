@@ -11,7 +11,7 @@ mod text;
 mod time;
 mod trail;
 
-use crate::any_book::{chain_refused, joined_refused, lorry_cell, AnyBook};
+use crate::any_book::{chain_refused, joined_refused, lorry_cell, touch, AnyBook};
 use crate::neighbours::Neighbours;
 use forest::{every, Forest, Labelled, CELLS};
 use kerb::calls::{ChainAnswer, Clock, JoinedAnswer};
@@ -58,6 +58,9 @@ impl<const CHECKED: bool, const BY_UNIONS: bool> Peer<CHECKED, BY_UNIONS> {
         }
         if CELLS as u16 <= one || CELLS as u16 <= other {
             return 3;
+        }
+        if !touch(one, other) {
+            return 14;
         }
         if tick < self.clock.time {
             return 4;

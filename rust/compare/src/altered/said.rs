@@ -7,8 +7,8 @@ use crate::fields::{book_of, labels_of, log_place, narrow, settings_of, spot, HA
 use crate::state::State;
 use kerb::RawBook;
 use oracle::{
-    in_lorrys_numbers, is_cell, number, Chain, Forest, History, Joined, Link, Linked, Refusal,
-    Settings, LINKS_PER_SLIDE, LOG_PLACES,
+    in_lorrys_numbers, is_cell, number, touch, Chain, Forest, History, Joined, Link, Linked,
+    Refusal, Settings, LINKS_PER_SLIDE, LOG_PLACES,
 };
 use streams::{lent_places, Answer, Call};
 
@@ -81,6 +81,7 @@ fn link(state: &mut State, tick: u32, cells: [u32; 2], log_places: usize) -> Res
     in_order(&state.book)?;
     log_is_long(log_places)?;
     are_cells(cells)?;
+    refuse_if(!touch(cells[0], cells[1]), Refusal::Apart)?;
     not_before_time(&state.book, tick)?;
     refuse_if(
         held(&state.book, tick) >= LINKS_PER_SLIDE,

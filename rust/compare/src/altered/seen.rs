@@ -4,11 +4,10 @@ use super::books::KINDS;
 use super::order::{disorder, REASONS};
 use super::said;
 use crate::fields::spot;
-use crate::seen::{hop, HOPS};
+use crate::seen::{apart, hop, APART, HOPS};
 use crate::state::State;
 use crate::tally::{number, span, Spans, Tally, NUMBERS};
-use oracle::{CHAIN_PLACES, LOG_PLACES};
-use streams::touching::far;
+use oracle::{touch, Refusal, CHAIN_PLACES, LOG_PLACES};
 use streams::{Answer, Call};
 
 const STEPS: &Spans = &[
@@ -26,7 +25,7 @@ pub fn tally() -> Tally {
         ("its pad bytes", &["0", "others"]),
         ("number 1 by", &REASONS),
         ("opening, number", &["0", "2", "6"]),
-        ("link, number", &["0", "1", "3", "4", "5", "6"]),
+        ("link, number", &["0", "1", "3", "4", "5", "6", "14"]),
         ("clock, number", &["0", "1", "4", "6"]),
         ("joined, number", &["0", "1", "3"]),
         ("chain, number", &["0", "1", "3", "6", "7"]),
@@ -35,7 +34,7 @@ pub fn tally() -> Tally {
             &["within the chunk", "to the next", "over chunks"],
         ),
         ("ticks moved", &HOPS),
-        ("link taken", &["touching", "far", "of a cell with itself"]),
+        ("cells of number 14", &APART),
         (
             "link's slide, before",
             &[
@@ -55,6 +54,7 @@ pub fn tally() -> Tally {
         ("forests and log", &["agree", "disagree"]),
         ("chain, in chunk", &["0", "a later one"]),
         ("chain, by", &["links alone", "pairs that are no links"]),
+        ("its links", &["touch", "do not all touch"]),
         ("hold of two cells", &NUMBERS[..16]),
         ("hold of a cell with itself", &NUMBERS[1..]),
     ])
@@ -81,6 +81,11 @@ pub fn count(tally: &mut Tally, before: &State, after: &State, call: &Call, answ
         _ => "chain, number",
     };
     tally.count(row, number(answer.number()));
+    if let Call::Link { a, b, .. } = call {
+        if answer.number() == Refusal::Apart.number() {
+            tally.count("cells of number 14", apart(*a, *b));
+        }
+    }
     match answer.number() {
         0 => count_done(tally, before, after, call, answer),
         1 => tally.count("number 1 by", disorder(&before.book).expect("a reason")),
@@ -90,14 +95,8 @@ pub fn count(tally: &mut Tally, before: &State, after: &State, call: &Call, answ
 
 fn count_done(tally: &mut Tally, before: &State, after: &State, call: &Call, answer: &Answer) {
     match (call, answer) {
-        (Call::Link { tick, a, b, .. }, _) => {
+        (Call::Link { tick, .. }, _) => {
             count_time(tally, before, *tick);
-            let kind = match (a == b, far(*a, *b)) {
-                (true, _) => "of a cell with itself",
-                (_, true) => "far",
-                _ => "touching",
-            };
-            tally.count("link taken", kind);
             tally.count("link's slide, before", slide_before(before, *tick));
             let order = match disorder(&after.book) {
                 None => "still in order",
@@ -171,6 +170,13 @@ fn count_window(tally: &mut Tally, state: &State) {
         "pairs that are no links"
     };
     tally.count("chain, by", pairs);
+    let all_touch = window.links.iter().all(|link| touch(link.a, link.b));
+    let links = if all_touch {
+        "touch"
+    } else {
+        "do not all touch"
+    };
+    tally.count("its links", links);
 }
 
 /// Whether the log chains two cells, whatever the forests say.
