@@ -28,6 +28,9 @@ apart = (refl, refl, refl)
 
 -- ---- tests that come to the same
 
+difference-either-way : (a b : ℕ) → difference a b ≡ difference b a
+difference-either-way a b = omega arith
+
 same-either-way : (a b : ℕ) → eqb a b ≡ eqb b a
 same-either-way a b =
     elim (ℕ-discrete a b) [
@@ -77,9 +80,6 @@ module _ (sectors : ℕ) where
 
   -- ---- one cell and another
 
-  difference-either-way : (a b : ℕ) → difference a b ≡ difference b a
-  difference-either-way a b = omega arith
-
   -- whichever of the two is named first
   pub touch-symmetric : (a b : ℕ) → touchOver sectors a b ≡ touchOver sectors b a
   unfolding touchOver
@@ -94,6 +94,7 @@ module _ (sectors : ℕ) where
       rw (within-is-same d 1 (e + 1) sectors (λ h. omega arith) (λ h. omega arith), within-is-same e 1 (d + 1) sectors (λ h. omega arith) (λ h. omega arith))
       (or-comm (eqb (e + 1) sectors) (eqb (d + 1) sectors))
 
+  -- mirrored sectors have the same difference, or the rest of the circle
   difference-mirrored : (s t : ℕ) → s < sectors → t < sectors
       → (difference (mirrorSector sectors s) (mirrorSector sectors t) ≡ difference s t)
       ⊎ (difference (mirrorSector sectors s) (mirrorSector sectors t) + difference s t ≡ sectors)
@@ -120,7 +121,8 @@ module _ (sectors : ℕ) where
       (λ e. near-round _ _ (omega (arith, rule-below sectors s hs, rule-below sectors t ht)) (omega arith) e)
       (difference-mirrored s t hs ht)
 
-  mirror-touch : (a b : ℕ) → a < cellsOver sectors → b < cellsOver sectors
+  -- mirrored cells touch exactly when the cells do
+  pub mirror-touch : (a b : ℕ) → a < cellsOver sectors → b < cellsOver sectors
       → touchOver sectors (mirrorOver sectors a) (mirrorOver sectors b) ≡ touchOver sectors a b
   unfolding touchOver
   mirror-touch a b ha hb =
