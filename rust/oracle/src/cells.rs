@@ -43,19 +43,18 @@ pub fn in_lorrys_numbers(cell: u32, mounting: u32) -> u32 {
 /// The cells that touch one: the rings next to its own, as far as there are, with
 /// the sectors next to its own round the circle, and not the cell itself. So 8 of
 /// them, or 5 in the first and the last ring.
-pub fn touching_cells(cell: u32) -> Vec<u32> {
+pub fn touching_cells(cell: u32) -> impl Iterator<Item = u32> {
     let (ring, sector) = (cell / SECTORS, cell % SECTORS);
     let rings = ring.saturating_sub(1)..=(ring + 1).min(RINGS - 1);
     let beside = [SECTORS - 1, 0, 1].map(|more| (sector + more) % SECTORS);
     rings
-        .flat_map(|ring| beside.map(|sector| SECTORS * ring + sector))
-        .filter(|&other| other != cell)
-        .collect()
+        .flat_map(move |ring| beside.map(|sector| SECTORS * ring + sector))
+        .filter(move |&other| other != cell)
 }
 
 /// Whether two cells touch.
 pub fn touch(first: u32, second: u32) -> bool {
-    touching_cells(first).contains(&second)
+    touching_cells(first).any(|cell| cell == second)
 }
 
 /// Number 14: two cells that don't touch.
@@ -142,7 +141,7 @@ mod tests {
     fn a_cell_touches_8_others_and_at_the_edges_5() {
         for cell in 0..CELLS {
             let between_rings = (1..RINGS - 1).contains(&(cell / SECTORS));
-            let cells = touching_cells(cell).len();
+            let cells = touching_cells(cell).count();
             assert_eq!(cells, if between_rings { 8 } else { 5 });
         }
     }

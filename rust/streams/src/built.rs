@@ -177,7 +177,7 @@ fn touching_pairs(left: &[u32], right: &[u32]) -> Vec<Pair> {
     }
     let mut pairs = Vec::new();
     for &one in left {
-        let others = touching_cells(one).into_iter();
+        let others = touching_cells(one);
         let others = others.filter(|&other| to_the_right.contains(other));
         pairs.extend(others.map(|other| (one, other)));
     }

@@ -20,9 +20,9 @@ pub enum Kind {
     Touching,
     /// The first three in turn, by chance.
     Mixed,
-    /// Mixed, and links of cells that do not touch.
+    /// Mixed, and links of cells that do not touch, which are refused.
     FarLinks,
-    /// Mixed, and links of a cell with itself.
+    /// Mixed, and links of a cell with itself, which are refused.
     SelfLinks,
     /// Mixed, and ticks beyond a hop.
     HugeJumps,

@@ -12,7 +12,7 @@ pub fn far(a: u32, b: u32) -> bool {
 
 /// One of the cells that touch one.
 pub fn touching_cell(dice: &mut Dice, cell: u32) -> u32 {
-    dice.pick(&touching_cells(cell))
+    dice.pick(&touching_cells(cell).collect::<Vec<u32>>())
 }
 
 /// One of the cells of a patch that touch one of its cells.
