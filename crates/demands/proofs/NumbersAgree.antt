@@ -16,6 +16,7 @@ use borrow.Author.Tests.{eq-eqb, ne-eqb, eqb-true}
 use Rattle.settings.specs.declared.Settings.{Settings}
 use Rattle.cells.specs.Touching.{touch}
 use Rattle.slides.specs.Clock.{notBefore, slideOf, placeOf}
+use Rattle.slides.specs.declared.Clock.{Clock}
 use Rattle.slides.proofs.Slides.{slide-later, place-rest}
 use Rattle.book_state.specs.declared.Book.{Book}
 use Rattle.book_state.specs.Log.{halfOf, spotOf, stored}
@@ -79,12 +80,18 @@ module _ {h : History} {s : State} (a : Agrees h s) where
 
   -- ---- the numbers
 
+  -- what a link asks when its cells touch
+  abbrev timely : (c : Clock) (held tick : ℕ) → List ℕ
+  timely c held tick = unless (notBefore c tick) 4 ∷ unless (ltb held 256) 5 ∷ []
+
   pub link-number : (tick one other : ℕ) → linkNumber (s .book) (s .log) tick one other ≡ numberIn (roomIn s) h (link tick one other)
   unfolding linkNumber numberIn
   link-number tick one other =
       passes 1 _ (agrees-in-order a) ∙ passes 6 _ (a .room)
       ∙ first-under (areCells one other) 2 _ _
-      (λ _. first-under (touch one other) 13 _ _
+      (λ _. first-under (touch one other) 13
+      (timely (s .book .clock) (stored (s .book) (slideOf (s .book .clock) tick)) tick)
+      (timely (h .clock) (howMany (slideLinks (slideOf (h .clock) tick) (h .links))) tick)
       (λ _. rw (ap (λ c. notBefore c tick) (a .clock))
       (first-under (notBefore (h .clock) tick) 3 _ _ (λ later. ap (λ k. firstOf (unless (ltb k 256) 5 ∷ [])) (stored-agrees tick later)))))
 
