@@ -18,6 +18,7 @@ difference one other = (one - other) + (other - one)
 abbrev pub isNear : (sectors difference : ℕ) → Bool
 isNear sectors d = leb d 1 || eqb (d + 1) sectors
 
+-- different cells, whose rings differ by at most 1 and whose sectors are near
 unfoldable pub touchOver : (sectors : ℕ) (one other : Cell) → Bool
 touchOver sectors one other =
     not (eqb one other)
