@@ -3,14 +3,12 @@
 -- A call gives the number that the history gives. Where that is not 0, nothing changes. Where it is 0, the call is an opening, and
 -- agreement begins with it (KeptByOpening); or time moves (KeptByTime), and then a link is stored (KeptByLink). Before the first
 -- opening that gives 0 there is nothing to keep, except that the log has as many places as before.
-use Prim.Native.Nat.{ℕ, zero, suc}
+use Prim.Native.Nat.{ℕ, zero, suc, _<_}
 use mathlib.Core.Path.{_≡_, refl, sym, _∙_, subst, subst⁻¹}
-use mathlib.Core.Bool.{true, and-eq-true-iff}
+use mathlib.Core.Bool.{true}
 use mathlib.Core.List.{List, [], _∷_}
 use mathlib.Core.Option.{Option, none, some}
-use lib.Dec.{ltb}
 use lib.ListN.{set, length-set}
-use borrow.Author.Tests.{ltb-true}
 use Rattle.cells.specs.declared.Fitting.{Fitting}
 use Rattle.settings.specs.declared.Settings.{Settings}
 use Rattle.cells.specs.Cell.{sectors, lorryCell}
@@ -40,6 +38,7 @@ use Rattle.demands.specs.History.{
 use Rattle.demands.specs.Implementation.{ours, State, stateOf, gives, after}
 use Rattle.demands.specs.Demands.{roomIn, AfterCalls}
 use Rattle.demands.specs.Agrees.{Agrees}
+use Rattle.book_state.proofs.Checks.{two-cells}
 use Rattle.numbers.proofs.Checks.{has-front, has-long}
 use Rattle.numbers.proofs.Checks.{first-passed, unless-passed}
 use Rattle.book.proofs.Taken.{Taken, taken}
@@ -111,15 +110,15 @@ module _ {h : History} {s : State} (a : Agrees h s) where
   link-done tick one other t =
       subst⁻¹ (λ m. Agrees (withLink (withTime h tick) (lorryLink h one other)) (linked tick one other m)) (a .fitting)
       (link-agrees (time-agrees a tick later) (lorryLink h one other)
-      (lorry-is-cell sectors (h .fitting .mounting) one (ltb-true one cells (two .0)))
-      (lorry-is-cell sectors (h .fitting .mounting) other (ltb-true other cells (two .1)))
+      (lorry-is-cell sectors (h .fitting .mounting) one (two .0))
+      (lorry-is-cell sectors (h .fitting .mounting) other (two .1))
       (rw (moved-slide (h .clock) tick later, ← (stored-agrees a tick later)) (t .few)))
     where
       later : notBefore (h .clock) tick ≡ true
       later = rw (a .clock) at (t .later)
 
-      two : (ltb one cells ≡ true) × (ltb other cells ≡ true)
-      two = and-eq-true-iff _ _ .0 (t .cells)
+      two : (one < cells) × (other < cells)
+      two = two-cells (t .cells)
 
   link-step : (tick one other k : ℕ) → linkNumber (s .book) (s .log) tick one other ≡ k
       → Agrees (addedByNumber k h (link tick one other)) (stateOf (linkByNumber k (s .book) (s .log) tick one other))

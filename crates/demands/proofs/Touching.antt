@@ -5,13 +5,12 @@
 -- that were taken, since an opening starts without any and no other call adds one.
 use Prim.Native.Nat.{ℕ, zero, suc}
 use mathlib.Core.Path.{_≡_, refl, sym, _∙_, subst}
-use mathlib.Core.Bool.{Bool, true, false, true≢false, false≢true, and-eq-true-iff}
+use mathlib.Core.Bool.{Bool, true, false, true≢false, false≢true}
 use mathlib.Core.List.{List, [], _∷_}
 use mathlib.Core.Logic.{_↔_}
 use mathlib.Core.Option.{Option, none, some}
 use native.Mathlib.Omega.{arith}
 use lib.Dec.{ltb}
-use borrow.Author.Tests.{ltb-true}
 use Rattle.numbers.specs.Checks.{firstOf, unless}
 use Rattle.graph.specs.Link.{Linked, along, against, here, there}
 use Rattle.graph.proofs.Forests.{nothing-linked}
@@ -21,8 +20,8 @@ use Rattle.cells.specs.Touching.{touch}
 use Rattle.cells.specs.Touching.Laws.{touch-symmetric, touch-itself, lorry-touch}
 use Rattle.cells.specs.declared.Fitting.{Fitting}
 use Rattle.slides.specs.Clock.{notBefore, slideOf}
-use Rattle.book_state.specs.Arrays.{cells}
 use Rattle.book_state.specs.Numbers.{areCells}
+use Rattle.book_state.proofs.Checks.{two-cells}
 use Rattle.numbers.proofs.Checks.{first-passed, unless-passed}
 use Rattle.demands.specs.History.{
   Call,
@@ -76,8 +75,7 @@ apart-agrees {h} {s} a tick one other = rw (number-agrees a (link tick one other
 
 alike : (fitting : Fitting) (one other : ℕ) → areCells one other ≡ true → touch (lorryCell fitting one) (lorryCell fitting other) ≡ touch one other
 alike fitting one other are =
-    let two : (ltb one cells ≡ true) × (ltb other cells ≡ true) = and-eq-true-iff _ _ .0 are in
-    lorry-touch sectors (fitting .mounting) one other (ltb-true one cells (two .0)) (ltb-true other cells (two .1))
+    let two = two-cells are in lorry-touch sectors (fitting .mounting) one other (two .0) (two .1)
 
 -- ---- the links of a history
 

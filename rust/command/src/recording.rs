@@ -58,12 +58,12 @@ impl Recording {
         let (settings, m) = kerb::read(file).map_err(&in_file)?;
         let mut book = Book::open(settings).map_err(&in_file)?;
         let records: Result<Vec<Record>, Refusal> = (0..m).map(|i| kerb::unpack(file, i)).collect();
-        let records = records.map_err(&in_file)?;
-        let mut played = records.clone();
+        let mut played = records.map_err(&in_file)?;
 
         let at_record = |stopped: kerb::Stopped| {
-            let Record { one, other, .. } = records[stopped.taken as usize];
-            Refused::of(About::Record(stopped.taken, [one, other]))(stopped.refusal)
+            let record = kerb::unpack(file, stopped.taken).expect("a record that was played");
+            let cells = [record.one, record.other];
+            Refused::of(About::Record(stopped.taken, cells))(stopped.refusal)
         };
         if let Some(at) = at {
             let taken = played.iter().take_while(|record| record.tick <= at);

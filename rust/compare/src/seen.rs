@@ -162,7 +162,7 @@ fn touching(a: u32, b: u32) -> &'static str {
     }
 }
 
-pub(crate) fn apart(a: u32, b: u32) -> &'static str {
+fn apart(a: u32, b: u32) -> &'static str {
     match rings_and_sectors(a, b) {
         (0, 0) => APART[0],
         (0 | 1, 2) => APART[1],
@@ -205,11 +205,7 @@ pub fn count(
     answer: &Answer,
 ) {
     tally.count(number_row(call), number(answer.number()));
-    if let Call::Link { a, b, .. } = call {
-        if answer.number() == Refusal::Apart.number() {
-            tally.count("cells of number 14", apart(*a, *b));
-        }
-    }
+    count_apart(tally, call, answer);
     let history = match history {
         Some(history) if answer.number() == 0 => history,
         _ => return,
@@ -244,6 +240,15 @@ pub fn count(
             }
         }
         _ => {}
+    }
+}
+
+/// How the cells of a link lie that is refused because they do not touch.
+pub(crate) fn count_apart(tally: &mut Tally, call: &Call, answer: &Answer) {
+    if let Call::Link { a, b, .. } = call {
+        if answer.number() == Refusal::Apart.number() {
+            tally.count("cells of number 14", apart(*a, *b));
+        }
     }
 }
 

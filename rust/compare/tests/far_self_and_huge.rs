@@ -1,5 +1,5 @@
-//! Far links, self links and huge jumps, each a test of its own: no other test has
-//! any of them.
+//! Far links, self links and huge jumps, each a test of its own. Beside these only
+//! `touching.rs`, which has all pairs, and a fault of `order.rs` have any of them.
 
 mod common;
 use common::*;

@@ -4,10 +4,10 @@ use super::books::KINDS;
 use super::order::{disorder, REASONS};
 use super::said;
 use crate::fields::spot;
-use crate::seen::{apart, hop, APART, HOPS};
+use crate::seen::{count_apart, hop, APART, HOPS};
 use crate::state::State;
 use crate::tally::{number, span, Spans, Tally, NUMBERS};
-use oracle::{touch, Refusal, CHAIN_PLACES, LOG_PLACES};
+use oracle::{touch, CHAIN_PLACES, LOG_PLACES};
 use streams::{Answer, Call};
 
 const STEPS: &Spans = &[
@@ -81,11 +81,7 @@ pub fn count(tally: &mut Tally, before: &State, after: &State, call: &Call, answ
         _ => "chain, number",
     };
     tally.count(row, number(answer.number()));
-    if let Call::Link { a, b, .. } = call {
-        if answer.number() == Refusal::Apart.number() {
-            tally.count("cells of number 14", apart(*a, *b));
-        }
-    }
+    count_apart(tally, call, answer);
     match answer.number() {
         0 => count_done(tally, before, after, call, answer),
         1 => tally.count("number 1 by", disorder(&before.book).expect("a reason")),
