@@ -8,7 +8,7 @@ int main(void)
     unsigned number;
 
     printf("version %lu of the header, %lu of the library\n", (unsigned long)KERB_VERSION, (unsigned long)kerb_version());
-    for (number = 0; number <= KERB_APART + 1; number++)
+    for (number = 0; number <= KERB_MASK + 1; number++)
         printf("number %u: %s\n", number, kerb_status_text((uint8_t)number));
     return 0;
 }

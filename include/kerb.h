@@ -3,11 +3,13 @@
  *
  *     static struct kerb_book book;                      (all zero bytes: a book that was never opened)
  *     static uint16_t log[KERB_LOG_PLACES];
+ *     static uint8_t body[KERB_CELLS];                   (1 for each cell of the lorry's own bodywork)
  *     struct kerb_settings settings = {.t0 = now, .b = 100, .n = 8, .mounting = KERB_PLAIN};
  *
  *     uint8_t number = kerb_opening(&book, KERB_PLACES(log), settings);
  *     number = kerb_link(&book, KERB_PLACES(log), tick, one, other);
- *     if (!kerb_joined(&book, walker, body).yes) ...     (light the lamp)
+ *     struct kerb_lamps_answer lamps = kerb_lamps(&book, KERB_PLACES(log), KERB_PLACES(body));
+ *     if (lamps.left || lamps.number != KERB_DONE) ...   (light the left lamp)
  *
  * Link with libkerb.a, which wants no more of the C library than memcpy, memmove and memset. Every function answers every input.
  * What it cannot do it refuses by a number of `enum kerb_number`, and then the book and all lent places are as they were and
@@ -82,7 +84,8 @@ enum kerb_number {
     KERB_OFFSET = 11,     /* the file's offset and count do not agree with its length */
     KERB_PAD = 12,        /* a pad byte of the file is not zero */
     KERB_LINE = 13,       /* a line of the text breaks the form */
-    KERB_APART = 14       /* the link's two cells do not touch */
+    KERB_APART = 14,      /* the link's two cells do not touch */
+    KERB_MASK = 15        /* the body mask is under 1,024 bytes, or has a byte that is neither 0 nor 1 among the first 1,024 */
 };
 
 enum kerb_mounting { KERB_PLAIN = 1, KERB_MIRRORED = 2 };
@@ -164,6 +167,14 @@ struct kerb_text_out_answer {
 
 struct kerb_groups_answer {
     uint32_t links; /* how many links the window holds, repeats counted */
+    uint8_t number;
+};
+
+struct kerb_lamps_answer {
+    uint16_t left_cell; /* of a lit lamp the smallest cell that lights it, in the lorry's numbers; of a dark one 0 */
+    uint16_t right_cell;
+    bool left; /* whether the lamp is lit */
+    bool right;
     uint8_t number;
 };
 
@@ -265,6 +276,13 @@ KERB_SIZE(kerb_groups_answer, 8);
 KERB_AT(kerb_groups_answer, links, 0);
 KERB_AT(kerb_groups_answer, number, 4);
 
+KERB_SIZE(kerb_lamps_answer, 8);
+KERB_AT(kerb_lamps_answer, left_cell, 0);
+KERB_AT(kerb_lamps_answer, right_cell, 2);
+KERB_AT(kerb_lamps_answer, left, 4);
+KERB_AT(kerb_lamps_answer, right, 5);
+KERB_AT(kerb_lamps_answer, number, 6);
+
 KERB_SIZE(kerb_record, 8);
 KERB_AT(kerb_record, tick, 0);
 KERB_AT(kerb_record, one, 4);
@@ -290,9 +308,9 @@ KERB_AT(kerb_slide_answer, exists, 8);
  * from the one to the other. `log_places` is the number of 16-bit places of the log, at least KERB_LOG_PLACES.
  */
 
-/* A book that was never opened: 0 in every byte. kerb_link, kerb_clock, kerb_joined, kerb_chain and kerb_groups give 1 for it,
-   and so does kerb_play at the first record of a file that the reader takes; its open slide is 0. Stack: 1 KB, and 9.3 KB more
-   where the compiler copies the book. */
+/* A book that was never opened: 0 in every byte. kerb_link, kerb_clock, kerb_joined, kerb_chain, kerb_groups and kerb_lamps give 1
+   for it, and so does kerb_play at the first record of a file that the reader takes; its open slide is 0. Stack: 1 KB, and 9.3 KB
+   more where the compiler copies the book. */
 KERB_LOOK_AT struct kerb_book kerb_never_opened(void);
 
 /*
@@ -343,6 +361,18 @@ KERB_LOOK_AT struct kerb_chain_answer kerb_chain(const struct kerb_book *book, c
 KERB_LOOK_AT struct kerb_groups_answer kerb_groups(const struct kerb_book *book, const uint16_t *log, size_t log_places,
                                                    uint16_t *first, size_t first_places, uint16_t *size, size_t size_places,
                                                    uint8_t *hold, size_t hold_places);
+
+/*
+ * The lamps. The left zone is sectors 33 to 63 and the right zone sectors 1 to 31, both in rings 0 to 5; sectors 0 and 32, dead
+ * ahead and dead astern, are in no zone. A lamp is lit exactly when its zone has a cell that is an end of a link of the window and
+ * is joined to no body cell. `mask` has a byte for each cell, IN THE LORRY'S NUMBERS: 1 for the lorry's own bodywork, 0 for any
+ * other; KERB_CELLS of them, and later bytes are not looked at. A mask without a 1 is allowed. A body cell is joined to itself, so
+ * it lights no lamp. The call changes nothing and moves no time: kerb_clock lets old links leave the window.
+ * Refuses, in this order: 1, 6 (the log), 15; then both lamps are false, WHICH IS NOT DARK: a panel that does not know lights them.
+ * Stack: 24 KB.
+ */
+KERB_LOOK_AT struct kerb_lamps_answer kerb_lamps(const struct kerb_book *book, const uint16_t *log, size_t log_places,
+                                                 const uint8_t *mask, size_t mask_bytes);
 
 /* The open slide k, that of the book's time. 0 for a book that was never opened. Stack: 1 KB. */
 KERB_LOOK_AT uint64_t kerb_open_slide(const struct kerb_book *book);
@@ -490,6 +520,8 @@ static inline const char *kerb_status_text(uint8_t number)
         return "a line of the text breaks the form";
     case KERB_APART:
         return "the link's two cells do not touch";
+    case KERB_MASK:
+        return "the body mask is under 1,024 bytes, or has a byte that is neither 0 nor 1 among the first 1,024";
     default:
         return "no number of this library";
     }

@@ -846,6 +846,7 @@ SETTINGS = Struct('settings', 'Settings', [('t0', 'u32'), ('b', 'u32'), ('n', 'u
 FIELDS_ANSWER = Struct('book', 'fields.FieldsAnswer', [('clock', ('struct', CLOCK)), ('fitting', ('struct', FITTING)), ('number', 'u8')])
 JOINED_ANSWER = Struct('book_joined', 'JoinedAnswer', [('number', 'u8'), ('yes', 'bool'), ('steps', 'u8')])
 CHAIN_ANSWER = Struct('chain', 'ChainAnswer', [('newest', 'u64'), ('cells', 'u16'), ('hold', 'u8'), ('number', 'u8')])
+LAMPS_ANSWER = Struct('lamps', 'LampsAnswer', [('left_cell', 'u16'), ('right_cell', 'u16'), ('left', 'bool'), ('right', 'bool'), ('number', 'u8')])
 GROUPS_ANSWER = Struct('groups', 'GroupsAnswer', [('links', 'u32'), ('number', 'u8')])
 PLAY_ANSWER = Struct('file_play', 'PlayAnswer', [('taken', 'u32'), ('number', 'u8')])
 PLAYED_FIELDS = Struct('file_play', 'PlayedFields', [('clock', ('struct', CLOCK)), ('fitting', ('struct', FITTING)), ('answer', ('struct', PLAY_ANSWER))])
@@ -912,6 +913,13 @@ SPECS = {
         lifetimes=ONE + [('param', 'log'), ('param', 'first'), ('param', 'size'), ('param', 'hold')], answer=('struct', GROUPS_ANSWER),
         uses=['use Rattle.groups.specs.Call.{groupsGiven, GivesGroups}'],
         ensured='GivesGroups (groupsGiven h l-log l-first l-size l-hold) r z-first z-size z-hold', says='e'),
+    'kerb_lamps': dict(
+        crate='kerb_lamps', fn='kerb_lamps', struct=BOOK, ref='shr', callee=('lamps', 'over_fields'),
+        params=[('slice-shr', 'log', 'u16'), ('slice-shr', 'mask', 'u8')],
+        args=FIELDS + [('slice', 'log'), ('slice', 'mask')],
+        lifetimes=ONE + [('param', 'log'), ('param', 'mask')], answer=('struct', LAMPS_ANSWER),
+        uses=['use Rattle.lamps.specs.Lamps.{lampsOf}'],
+        ensured='r ≡ lampsOf h l-log l-mask', says='e'),
 }
 
 if __name__ == '__main__':

@@ -15,6 +15,7 @@ use Rattle.graph.proofs.Chains.{chained-group, group-chained, chained-relink, c
 use Rattle.forest.specs.Arrays.{places, freshParents}
 use Rattle.book_state.specs.Arrays.{cells}
 use Rattle.book_state.specs.Log.{keep, pairAt, linksAt}
+use Rattle.book_state.proofs.LogLinks.{keep-append, links-more}
 use Rattle.forest_scratch.specs.declared.Roots.{Roots}
 use Rattle.forest_scratch.specs.Scratch.{Descends, rootsOf, joinOf, RootOf}
 use Rattle.forest_scratch.proofs.Standing.{stands-fresh}
@@ -137,25 +138,7 @@ module _ {xs : List Link} {ps ps′ : List ℕ} {from via : Roots} (f : Follows 
 
 -- ---- the pairs of a log place
 
-keep-append : (l : Link) (xs ys : List Link) → keep l (xs ++ ys) ≡ keep l xs ++ ys
-keep-append l xs ys = go (ltb (l .one) cells && ltb (l .other) cells)
-  where
-    go : (t : Bool) → cond t (l ∷ (xs ++ ys)) (xs ++ ys) ≡ cond t (l ∷ xs) xs ++ ys
-    go true = refl
-    go false = refl
-
--- one pair more
-pub links-more : (log : List ℕ) (start i : ℕ) → linksAt log start (i + 1) ≡ linksAt log start i ++ keep (pairAt log (start + 2 * i)) []
-unfolding linksAt
-links-more log start i = let e : i + 1 ≡ suc i = omega arith in rw e (go start i)
-  where
-    go : (start i : ℕ) → linksAt log start (suc i) ≡ linksAt log start i ++ keep (pairAt log (start + 2 * i)) []
-    go start zero = let e : start + 2 * 0 ≡ start = omega arith in rw e
-    go start (suc i) =
-        let e : start + 2 * suc i ≡ start + 2 + 2 * i = omega arith in
-        rw e (ap (keep (pairAt log start)) (go (start + 2) i) ∙ keep-append (pairAt log start) (linksAt log (start + 2) i) _)
-
--- and the pairs after those before i
+-- the pairs after those before i
 pub links-rest : (log : List ℕ) (start i count : ℕ) → i ≤ count → (ys : List Link) × (linksAt log start count ≡ linksAt log start i ++ ys)
 unfolding linksAt
 links-rest log start zero count h = (linksAt log start count, refl)

@@ -11,6 +11,7 @@ pub mod Keeps
 pub mod KeptByLink
 pub mod KeptByOpening
 pub mod KeptByTime
+pub mod LampsAre
 pub mod Lists
 pub mod Log
 pub mod NeverOpened

@@ -1,20 +1,19 @@
 -- The log: links depend on the entries at their own places alone, and a further link stands after those before it. Spots have 512
 -- places each and do not overlap.
-use Prim.Native.Nat.{ℕ, zero, suc, _+_, _≤_, _<_}
-use mathlib.Core.Path.{_≡_, refl, _∙_, ap}
-use mathlib.Core.Bool.{Bool, true, false, cond, _&&_}
+use Prim.Native.Nat.{ℕ, zero, suc, _+_, _*_, _≤_, _<_}
+use mathlib.Core.Path.{_≡_, refl, sym, _∙_, ap}
 use mathlib.Core.List.{List, [], _∷_, _++_}
 use mathlib.Core.Logic.{_⊎_, inl, inr}
 use native.Mathlib.Omega.{arith}
-use native.Mathlib.Nat.{add-zero}
+use native.Mathlib.Numerals.{add-one}
 use native.Mathlib.Decide.{decLt}
-use lib.Dec.{ltb}
 use lib.ListN.{length, getD, set, length-set}
 use lib.Seq.{getD-set-same, getD-set-other}
 use borrow.Author.Tests.{lt-ltb}
 use Rattle.graph.specs.Link.{Link}
 use Rattle.book_state.specs.Arrays.{cells}
 use Rattle.book_state.specs.Log.{startOf, keep, pairAt, linksAt}
+use Rattle.book_state.proofs.LogLinks.{links-more}
 
 -- logs that agree on the places of the links hold the same links
 links-same : (log log′ : List ℕ) (at n : ℕ) → ((i : ℕ) → at ≤ i → i < at + (n + n) → getD log i 0 ≡ getD log′ i 0)
@@ -25,24 +24,14 @@ links-same log log′ at (suc n) e =
     let rest = links-same log log′ (at + 2) n (λ i l h. e i (omega arith) (omega arith)) in
     rw (e at (omega arith) (omega arith), e (at + 1) (omega arith) (omega arith), rest)
 
--- the last link stands at the end
-keep-end : (l : Link) (ls ms : List Link) → keep l (ls ++ ms) ≡ keep l ls ++ ms
-keep-end l ls ms = go (ltb (l .one) cells && ltb (l .other) cells)
-  where
-    go : (t : Bool) → cond t (l ∷ (ls ++ ms)) (ls ++ ms) ≡ cond t (l ∷ ls) ls ++ ms
-    go true = refl
-    go false = refl
-
 keep-cells : (l : Link) (ls : List Link) → l .one < cells → l .other < cells → keep l ls ≡ l ∷ ls
 keep-cells l ls one other = rw (lt-ltb _ _ one, lt-ltb _ _ other)
 
-links-more : (log : List ℕ) (at n : ℕ) → linksAt log at (suc n) ≡ linksAt log at n ++ keep (pairAt log (at + (n + n))) []
-unfolding linksAt
-links-more log at zero = rw (add-zero at)
-links-more log at (suc n) =
-    ap (keep (pairAt log at))
-    (links-more log (at + 2) n ∙ ap (λ i. linksAt log (at + 2) n ++ keep (pairAt log i) []) (omega arith))
-    ∙ keep-end (pairAt log at) (linksAt log (at + 2) n) _
+-- the last link stands at the end
+links-last : (log : List ℕ) (at n : ℕ) → linksAt log at (suc n) ≡ linksAt log at n ++ keep (pairAt log (at + (n + n))) []
+links-last log at n =
+    let twice : 2 * n ≡ n + n = omega arith in
+    ap (linksAt log at) (sym (add-one n)) ∙ links-more log at n ∙ ap (λ i. linksAt log at n ++ keep (pairAt log (at + i)) []) twice
 
 -- ---- a pair of cells stored
 
@@ -76,7 +65,7 @@ pub links-stored : (log : List ℕ) (start n : ℕ) (l : Link) → l .one < cell
     → linksAt (paired log (start + (n + n)) l) start (suc n) ≡ linksAt log start n ++ (l ∷ [])
 links-stored log start n l one other h =
     let log′ : List ℕ = paired log (start + (n + n)) l in
-    links-more log′ start n
+    links-last log′ start n
     ∙ ap (λ p. linksAt log′ start n ++ keep p []) (paired-here log (start + (n + n)) l h)
     ∙ ap (λ ls. linksAt log′ start n ++ ls) (keep-cells l [] one other)
     ∙ ap (λ ls. ls ++ (l ∷ [])) (links-elsewhere log (start + (n + n)) l start n (inr (omega arith)))

@@ -19,13 +19,18 @@ use Rattle.file.specs.Layout.{tickAt, oneAt, otherAt}
 use Rattle.file.specs.Format.{readOf}
 use Rattle.file_play.specs.Play.{playFrom, playByNumber, recordGives}
 use Rattle.groups.specs.Call.{groupsNumberIn}
+use Rattle.lamps.specs.Lamps.{lampsNumberIn}
 use Rattle.demands.specs.Demands.{NeverOpened}
 use Rattle.demands.proofs.NumbersAgree.{link-gives, clock-gives, joined-gives}
 use Rattle.demands.proofs.NoEight.{chain-gives}
 use Rattle.demands.proofs.FilesRefused.{groups-gives, play-read}
+use Rattle.demands.proofs.LampsAre.{lamps-gives}
 
 never-groups : (log first size hold : List ℕ) → groupsNumberIn (inOrder neverOpened) log first size hold ≡ 1
 never-groups log first size hold = fails 0 _ never-in-order
+
+never-lamps : (log mask : List ℕ) → lampsNumberIn (inOrder neverOpened) log mask ≡ 1
+never-lamps log mask = fails 0 _ never-in-order
 
 -- the link call of any record
 never-record : (file : List ℕ) (i : ℕ) (log : List ℕ) → recordGives file i neverOpened log ≡ record { book = neverOpened; log = log; number = 1 }
@@ -48,6 +53,7 @@ never-opened =
       joined = λ one other. joined-gives _ _ _ ∙ never-joined one other;
       chain = λ log chain one other. chain-gives (record { book = neverOpened; log = log }) chain one other ∙ never-chain log chain one other;
       groups = λ log first size hold. groups-gives _ _ _ _ _ ∙ never-groups log first size hold;
+      lamps = λ log mask. lamps-gives _ _ _ ∙ never-lamps log mask;
       play = λ file log e. play-read file neverOpened log e ∙ never-play file (readOf file .m) log;
       open-slide = refl;
     }

@@ -20,8 +20,12 @@ use Rattle.book_state.specs.Numbers.{logPlaces}
 use Rattle.book_joined.specs.Joined.{joinedNumber, joinedByNumber, joinedOf}
 use Rattle.book.specs.Calls.{Outcome, openingNumber, openingByNumber, openingOf, linkNumber, linkStored, linkByNumber, linkOf, clockNumber, clockByNumber, clockOf}
 use Rattle.chain.specs.Chain.{ChainOutcome, chainNumber, chainByNumber, chainOf}
+use Rattle.graph.specs.Link.{Link}
+use Rattle.lamps.specs.declared.LampsAnswer.{LampsAnswer}
+use Rattle.window_ends.specs.Ends.{linksIn}
+use Rattle.lamps.specs.Lamps.{lampsNumberIn, lampsByNumber, lampsOf}
 use Rattle.demands.specs.History.{Call, opening, link, clock}
-use Rattle.demands.specs.Implementation.{ours, State, gives, givesChain}
+use Rattle.demands.specs.Implementation.{ours, State, gives, givesChain, givesLamps}
 use Rattle.demands.specs.Demands.{Refused}
 use Rattle.book.proofs.Taken.{Taken, taken}
 use Rattle.book_time.proofs.Moves.{moved-clock, moved-count}
@@ -79,6 +83,18 @@ unchained s chain one other = go (chainNumber (s .book) (s .log) chain one other
     go zero n = absurd (n refl)
     go (suc k) n = refl
 
+unlit : (s : State) (mask : List ℕ) →
+    let o : LampsAnswer = givesLamps ours s mask in
+    (o .number ≡ 0 → ⊥) → o ≡ record { «left_cell» = 0; «right_cell» = 0; left = false; right = false; number = o .number }
+unfolding lampsOf lampsByNumber
+unlit s mask = go (lampsNumberIn (inOrder (s .book)) (s .log) mask) (linksIn (s .book .clock) (s .book .counts) (s .log))
+  where
+    go : (k : ℕ) (links : List Link) →
+        let o : LampsAnswer = lampsByNumber k links mask in
+        (o .number ≡ 0 → ⊥) → o ≡ record { «left_cell» = 0; «right_cell» = 0; left = false; right = false; number = o .number }
+    go zero links n = absurd (n refl)
+    go (suc k) links n = refl
+
 -- ---- log places from 16,384 on
 
 opening-beyond : (k : ℕ) (b : Book) (log : List ℕ) (s : Settings) → drop logPlaces (openingByNumber k b log s .log) ≡ drop logPlaces log
@@ -118,4 +134,4 @@ beyond s (link tick one other) = link-beyond _ _ _ _ _ _ refl
 beyond s (clock tick) = clock-beyond _ _ _ _
 
 pub refused : Refused ours
-refused = record { kept = kept; beyond = beyond; unanswered = unanswered; unchained = unchained }
+refused = record { kept = kept; beyond = beyond; unanswered = unanswered; unchained = unchained; unlit = unlit }

@@ -41,7 +41,7 @@ module _ {h : History} {s : State} (agrees : Agrees h s) where
       let told = rw (window-all (s .book .clock) (s .book .counts) (s .log)) at (same-first (s .book .clock) (s .book .counts) (s .log) a b (ltb-true _ _ (two .0)) (ltb-true _ _ (two .1))) in
       (λ e. same-chains a b .0 (told .0 e), λ x. told .1 (same-chains a b .1 x))
 
-  agrees-window : WindowIs s h
+  pub agrees-window : WindowIs s h
   agrees-window =
       record {
         slides = λ age young past. links-of-age agrees age _ (omega arith) young;

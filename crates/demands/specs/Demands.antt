@@ -2,19 +2,19 @@
 -- and the table tell (History); there is one once an opening has given 0.
 use Prim.Native.Nat.{ℕ, _+_, _*_, _≤_, _<_}
 use mathlib.Core.Path.{_≡_}
-use mathlib.Core.Logic.{_↔_}
+use mathlib.Core.Logic.{_↔_, _⊎_}
 use mathlib.Core.Bool.{Bool, true, false}
 use mathlib.Core.List.{List, [], _∷_}
 use mathlib.Core.Option.{some}
 use lib.Dec.{eqb}
-use lib.ListN.{length, take, drop}
+use lib.ListN.{length, getD, take, drop}
 use Rattle.numbers.specs.Kinds.{Bytes, Cell, Log}
 use Rattle.graph.specs.Link.{Linked, Chained, chains}
 use Rattle.graph.specs.Trail.{Best}
 use Rattle.graph.specs.Forest.{Forest, forestOf, walk, walkAt, parentAt}
 use Rattle.settings.specs.Settings.{takenNumber}
 use Rattle.settings.specs.declared.Settings.{Settings}
-use Rattle.cells.specs.Cell.{lorryCell}
+use Rattle.cells.specs.Cell.{sectors, lorryCell}
 use Rattle.cells.specs.Touching.{touch}
 use Rattle.cells.specs.declared.Fitting.{Fitting}
 use Rattle.slides.specs.Clock.{notBefore, slideOf, openSlide}
@@ -23,7 +23,7 @@ use Rattle.book_state.specs.Order.{neverOpened}
 use Rattle.book.specs.Calls.{linkOf, clockOf}
 use Rattle.book_joined.specs.declared.JoinedAnswer.{JoinedAnswer}
 use Rattle.book_joined.specs.Joined.{joinedOf}
-use Rattle.book_state.specs.Arrays.{stepLimit}
+use Rattle.book_state.specs.Arrays.{cells, stepLimit}
 use Rattle.numbers.specs.Checks.{firstOf, unless, has}
 use Rattle.numbers.specs.Front.{atFront}
 use Rattle.book_state.specs.Numbers.{logPlaces, areCells}
@@ -37,6 +37,10 @@ use Rattle.listing.specs.Listing.{listingOf}
 use Rattle.groups.specs.Call.{GroupsOutcome, groupsGiven}
 use Rattle.chain.specs.declared.ChainAnswer.{ChainAnswer}
 use Rattle.chain.specs.Chain.{ChainOutcome, chainPlaces, chainOf}
+use Rattle.lamps.specs.declared.LampsAnswer.{LampsAnswer}
+use Rattle.lamps.specs.Lamps.{lampsOf}
+use Rattle.lamps.specs.Mask.{isMask, isBody}
+use Rattle.lamps.specs.Zones.{Zone, leftZone, rightZone, inZone}
 use Rattle.demands.specs.History.{
   Call,
   opening,
@@ -54,7 +58,7 @@ use Rattle.demands.specs.History.{
   backwardLinks,
   placeIn,
 }
-use Rattle.demands.specs.Implementation.{Implementation, State, gives, after, givesChain}
+use Rattle.demands.specs.Implementation.{Implementation, State, gives, after, givesChain, givesLamps}
 
 -- the log has its 16,384 places (RULES 7.1, number 6)
 abbrev pub roomIn : State → Bool
@@ -91,6 +95,9 @@ pub record Refused (p : Implementation) : Type 0 where
       let o : ChainOutcome = givesChain p s chain one other in
       (o .answer .number ≡ 0 → ⊥) →
       o ≡ record { answer = record { newest = 0; cells = 0; hold = 0; number = o .answer .number }; chain = chain }
+  pub unlit : (s : State) (mask : Bytes) →
+      let o : LampsAnswer = givesLamps p s mask in
+      (o .number ≡ 0 → ⊥) → o ≡ record { «left_cell» = 0; «right_cell» = 0; left = false; right = false; number = o .number }
 
 -- playing from record i on stopped at a refused record: the records before it were taken, `before` of them, the book and its log
 -- are as they left them, and the number is the link call's (RULES 6.6, 6.7)
@@ -232,6 +239,32 @@ pub record Touching : Type 0 where
   pub linked : (room : Bool) (cs : List Call) (h : History) → historyOf room cs ≡ some h →
       (one other : ℕ) → Linked one other (linksOf (h .links)) → touch one other ≡ true
 
+-- a cell that lights a lamp: it is in the lamp's zone, an end of a link of the window, and joined says no with every body cell (RULES 11.3)
+pub record Lights (p : Implementation) (s : State) (h : History) (mask : Bytes) (zone : Zone) (c : ℕ) : Type 0 where
+  pub inside : inZone sectors zone c ≡ true
+  pub linked : (d : ℕ) × Linked c d (windowOf h)
+  pub free : (b : ℕ) → b < cells → isBody mask b ≡ true → p .joinedGives (s .book) c b .yes ≡ false
+
+-- a lamp is lit exactly when some cell lights it, and then it tells the smallest such cell; the cell of a dark lamp is 0 (RULES 11.4)
+pub record LampIs (p : Implementation) (s : State) (h : History) (mask : Bytes) (zone : Zone) (isLit : Bool) (cell : ℕ) : Type 0 where
+  pub lit : (isLit ≡ true) ↔ ((c : ℕ) × Lights p s h mask zone c)
+  pub smallest : isLit ≡ true → Lights p s h mask zone cell × ((c : ℕ) → Lights p s h mask zone c → cell ≤ c)
+  pub dark : isLit ≡ false → cell ≡ 0
+  -- where nothing is bodywork, some cell of the zone is an end of a link (RULES 11.5)
+  pub bare : ((b : ℕ) → b < cells → getD mask b 0 ≡ 0) →
+      (isLit ≡ true) ↔ ((c : ℕ) × (inZone sectors zone c ≡ true) × ((d : ℕ) × Linked c d (windowOf h)))
+
+-- the lamps: the number is 0 or 15, and 15 exactly when the mask is under 1,024 bytes or has another value than 0 and 1 among the first
+-- 1,024 (RULES 11.2, 7.2); with 0 both lamps are as the history says
+pub record Lamps (p : Implementation) : Type 0 where
+  pub number : AfterCalls p λ s h. (mask : Bytes) → givesLamps p s mask .number ≡ unless (isMask cells mask) 15
+  pub fifteen : AfterCalls p λ s h. (mask : Bytes) →
+      (givesLamps p s mask .number ≡ 15) ↔ ((length mask < cells) ⊎ ((i : ℕ) × (i < cells) × (1 < getD mask i 0)))
+  pub left : AfterCalls p λ s h. (mask : Bytes) → isMask cells mask ≡ true →
+      LampIs p s h mask (leftZone sectors) (givesLamps p s mask .left) (givesLamps p s mask .«left_cell»)
+  pub right : AfterCalls p λ s h. (mask : Bytes) → isMask cells mask ≡ true →
+      LampIs p s h mask (rightZone sectors) (givesLamps p s mask .right) (givesLamps p s mask .«right_cell»)
+
 -- a book that was never opened: all but playing give 1, whatever the log; playing gives it at record 0, where there is one, and its
 -- open slide is 0 (RULES 7.8). A file that the reader refuses is not played (FilesRefused)
 pub record NeverOpened : Type 0 where
@@ -240,6 +273,7 @@ pub record NeverOpened : Type 0 where
   pub joined : (one other : ℕ) → joinedOf neverOpened one other .number ≡ 1
   pub chain : (log chain : List ℕ) (one other : ℕ) → chainOf neverOpened log chain one other .answer .number ≡ 1
   pub groups : (log first size hold : List ℕ) → groupsGiven neverOpened log first size hold .answer .number ≡ 1
+  pub lamps : (log : Log) (mask : Bytes) → lampsOf neverOpened log mask .number ≡ 1
   pub play : (file : Bytes) (log : Log) → readNumber file ≡ 0 →
       playOf file neverOpened log ≡ record { book = neverOpened; log = log; number = unless (eqb (readOf file .m) 0) 1; taken = 0 }
   pub open-slide : openSlide (neverOpened .clock) ≡ 0

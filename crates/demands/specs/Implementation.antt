@@ -2,13 +2,15 @@
 -- stated of any implementation, so that they can be proved of ours and refuted for fakes (RULES 10.5).
 use Prim.Native.Nat.{ℕ}
 use mathlib.Core.List.{List, [], _∷_}
-use Rattle.numbers.specs.Kinds.{Cell, Log, Tick}
+use Rattle.numbers.specs.Kinds.{Bytes, Cell, Log, Tick}
 use Rattle.settings.specs.declared.Settings.{Settings}
 use Rattle.book_state.specs.declared.Book.{Book}
 use Rattle.book_joined.specs.declared.JoinedAnswer.{JoinedAnswer}
 use Rattle.book_joined.specs.Joined.{joinedOf}
 use Rattle.book.specs.Calls.{Outcome, openingOf, linkOf, clockOf}
 use Rattle.chain.specs.Chain.{ChainOutcome, chainOf}
+use Rattle.lamps.specs.declared.LampsAnswer.{LampsAnswer}
+use Rattle.lamps.specs.Lamps.{lampsOf}
 use Rattle.demands.specs.History.{Call, opening, link, clock}
 
 pub record Implementation : Type 0 where
@@ -17,6 +19,7 @@ pub record Implementation : Type 0 where
   pub clockGives : (book : Book) (log : Log) (tick : Tick) → Outcome
   pub joinedGives : (book : Book) (one other : Cell) → JoinedAnswer
   pub chainGives : (book : Book) (log : Log) (chain : List Cell) (one other : Cell) → ChainOutcome
+  pub lampsGives : (book : Book) (log : Log) (mask : Bytes) → LampsAnswer
 
 abbrev pub ours : Implementation
 ours =
@@ -26,6 +29,7 @@ ours =
       clockGives = clockOf;
       joinedGives = joinedOf;
       chainGives = chainOf;
+      lampsGives = lampsOf;
     }
 
 -- the book and its log together are the state (RULES 7.7)
@@ -50,3 +54,7 @@ after p s (c ∷ cs) = after p (stateOf (gives p s c)) cs
 -- what the chain call gives, for a chain buffer and two cells
 abbrev pub givesChain : (implementation : Implementation) (state : State) (chain : List Cell) (one other : Cell) → ChainOutcome
 givesChain p s chain one other = p .chainGives (s .book) (s .log) chain one other
+
+-- what the lamps call gives, for a body mask
+abbrev pub givesLamps : (implementation : Implementation) (state : State) (mask : Bytes) → LampsAnswer
+givesLamps p s mask = p .lampsGives (s .book) (s .log) mask

@@ -1,18 +1,27 @@
 -- The builds that must be shut out (RULES 10.5), as implementations. Each differs from ours by its one fault and by nothing else:
 -- where a call of ours is refused, the fake refuses it with the same number, but for the one whose fault is that it takes it.
 use Prim.Native.Nat.{ℕ, zero, suc}
-use mathlib.Core.Bool.{Bool, false, cond}
+use mathlib.Core.Bool.{Bool, true, false, cond, not, _&&_}
 use mathlib.Core.List.{List, _++_}
 use lib.Dec.{eqb, ltb}
 use lib.ListN.{length, drop}
-use Rattle.numbers.specs.Kinds.{Cell, Log, Number}
+use Rattle.numbers.specs.Kinds.{Bytes, Cell, Log, Number}
+use Rattle.graph.specs.Link.{Link}
+use Rattle.cells.specs.Cell.{sectors}
 use Rattle.slides.specs.Clock.{slideOf}
 use Rattle.book_state.specs.declared.Book.{Book}
+use Rattle.book_state.specs.Arrays.{cells}
 use Rattle.book_joined.specs.declared.JoinedAnswer.{JoinedAnswer}
 use Rattle.book_joined.specs.Joined.{joinedOf}
 use Rattle.book.specs.Calls.{Outcome, openingOf, linkByNumber, linkOf, clockOf}
 use Rattle.chain.specs.declared.ChainAnswer.{ChainAnswer}
 use Rattle.chain.specs.Chain.{ChainOutcome, chainOf}
+use Rattle.window_ends.specs.Ends.{isEnd, linksIn}
+use Rattle.lamps.specs.declared.Lamp.{Lamp}
+use Rattle.lamps.specs.declared.LampsAnswer.{LampsAnswer}
+use Rattle.lamps.specs.Mask.{isBody}
+use Rattle.lamps.specs.Zones.{Zone, leftZone, rightZone, inZone}
+use Rattle.lamps.specs.Lamps.{onBody, lights, lampFrom, lampsOf}
 use Rattle.demands.specs.Implementation.{Implementation}
 
 -- the fault where ours gives 0, and what ours gives otherwise
@@ -32,6 +41,9 @@ refusing number =
       chainGives = λ b log chain one other.
           let o : ChainOutcome = chainOf b log chain one other in
           whereDone (o .answer .number) (record { answer = record { newest = 0; cells = 0; hold = 0; number = number }; chain = chain }) o;
+      lampsGives = λ b log mask.
+          let o : LampsAnswer = lampsOf b log mask in
+          whereDone (o .number) (record { «left_cell» = 0; «right_cell» = 0; left = false; right = false; number = number }) o;
     }
   where
     refusal : Book → Log → Outcome → Outcome
@@ -46,6 +58,7 @@ withJoined fault =
       clockGives = clockOf;
       joinedGives = λ b one other. let o : JoinedAnswer = joinedOf b one other in whereDone (o .number) (fault b one other) o;
       chainGives = chainOf;
+      lampsGives = lampsOf;
     }
 
 -- one fixed yes, and one fixed no
@@ -66,6 +79,7 @@ withChain fault =
       joinedGives = joinedOf;
       chainGives = λ b log chain one other.
           let o : ChainOutcome = chainOf b log chain one other in whereDone (o .answer .number) (fault b log chain one other) o;
+      lampsGives = lampsOf;
     }
 
 -- one fixed chain
@@ -93,6 +107,7 @@ withLink fault =
       clockGives = clockOf;
       joinedGives = joinedOf;
       chainGives = chainOf;
+      lampsGives = lampsOf;
     }
 
 -- its link moves the time, as a clock call does, and stores nothing
@@ -117,4 +132,57 @@ reaching =
       clockGives = clockOf;
       joinedGives = joinedOf;
       chainGives = chainOf;
+      lampsGives = lampsOf;
     }
+
+-- a fault of the lamps: by the links of the window, the mask and what ours gives
+abbrev pub LampsFault : Type 0
+LampsFault = List Link → Bytes → LampsAnswer → LampsAnswer
+
+-- ours with another lamps call
+abbrev pub withLamps : LampsFault → Implementation
+withLamps fault =
+    record {
+      openingGives = openingOf;
+      linkGives = linkOf;
+      clockGives = clockOf;
+      joinedGives = joinedOf;
+      chainGives = chainOf;
+      lampsGives = λ b log mask.
+          let o : LampsAnswer = lampsOf b log mask in whereDone (o .number) (fault (linksIn (b .clock) (b .counts) log) mask o) o;
+    }
+
+-- both lamps, each by its zone
+abbrev pub bothLamps : (lamp : Zone → Lamp) → LampsAnswer
+bothLamps lamp =
+    let left : Lamp = lamp (leftZone sectors) in
+    let right : Lamp = lamp (rightZone sectors) in
+    record { «left_cell» = left .cell; «right_cell» = right .cell; left = left .lit; right = right .lit; number = 0 }
+
+abbrev pub alwaysDark : LampsFault
+alwaysDark links mask o = bothLamps λ zone. record { cell = 0; lit = false }
+
+-- by the smallest cell of the zone
+abbrev pub alwaysLit : LampsFault
+alwaysLit links mask o = bothLamps λ zone. record { cell = zone .from; lit = true }
+
+-- left for right, and right for left
+abbrev pub swapped : LampsFault
+swapped links mask o = record { «left_cell» = o .«right_cell»; «right_cell» = o .«left_cell»; left = o .right; right = o .left; number = 0 }
+
+-- of the mask the cell's own byte alone is looked at
+abbrev pub ownByte : LampsFault
+ownByte links mask o = bothLamps λ zone. lampFrom (λ c. inZone sectors zone c && isEnd links c && not (isBody mask c)) 0 cells
+
+-- cells without a link light
+abbrev pub unlinked : LampsFault
+unlinked links mask o = bothLamps λ zone. lampFrom (λ c. inZone sectors zone c && not (onBody links mask c)) 0 cells
+
+-- of `count` cells the largest that passes
+unfoldable pub lampBelow : (test : Cell → Bool) (count : ℕ) → Lamp
+lampBelow test zero = record { cell = 0; lit = false }
+lampBelow test (suc c) = cond (test c) (record { cell = c; lit = true }) (lampBelow test c)
+
+-- a lit lamp tells the largest cell
+abbrev pub largest : LampsFault
+largest links mask o = bothLamps λ zone. lampBelow (lights links mask zone) cells

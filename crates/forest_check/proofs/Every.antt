@@ -1,9 +1,8 @@
 -- A pass over a list that tests every entry, as a loop with a flag: what was tested so far and what is left make the whole.
 use Prim.Native.Nat.{ℕ, zero, suc, _+_, _≤_, _<_}
 use mathlib.Core.Path.{_≡_, refl, sym, ap, _∙_}
-use mathlib.Core.Bool.{Bool, true, false, _&&_, and-assoc, and-self-left, and-true, and-false, and-eq-true-iff}
+use mathlib.Core.Bool.{Bool, true, false, _&&_, and-assoc, and-self-left, and-true, and-eq-true-iff}
 use mathlib.Core.List.{List, [], _∷_}
-use mathlib.Core.Logic.{_⊎_, ⊎-elim}
 use native.Mathlib.Omega.{arith}
 use native.Mathlib.Nat.{add-zero, zero-add, add-suc, suc-add}
 use native.Mathlib.Numerals.{add-one}
@@ -17,18 +16,6 @@ use Rattle.forest_check.specs.Sound.{every, within}
 pub record Tested (f : ℕ → ℕ → Bool) (l : List ℕ) (fine : Bool) (i : ℕ) : Type 0 where
   pub passed : i ≤ length l
   pub rest : every f 0 l ≡ (fine && every f i (drop i l))
-
--- the flag after a test that failed, and after one that passed
-pub struck : {t flag : Bool} (fine : Bool) → t ≡ false → flag ≡ false → flag ≡ (fine && t)
-struck fine e h = h ∙ rw e (sym (and-false fine))
-
-pub kept : {t flag fine : Bool} → t ≡ true → flag ≡ fine → flag ≡ (fine && t)
-kept {fine} e h = h ∙ rw e (sym (and-true fine))
-
--- where the arms of `if .. { flag = false; }` meet
-pub flagged : {P Q : Type 0} {t flag fine : Bool} → (P → t ≡ false) → (Q → t ≡ true) → (P × (flag ≡ false)) ⊎ (Q × (flag ≡ fine))
-    → flag ≡ (fine && t)
-flagged {fine} fails passes = ⊎-elim (λ w. struck fine (fails (w .0)) (w .1)) (λ w. kept (passes (w .0)) (w .1))
 
 module _ {f : ℕ → ℕ → Bool} {l : List ℕ} where
   pub tested-none : Tested f l true 0

@@ -1,2 +1,3 @@
 pub mod Checks
+pub mod Flags
 pub mod Parts

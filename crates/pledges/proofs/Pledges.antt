@@ -14,6 +14,7 @@ use Rattle.pledges.specs.Calls.{
   joinedCall,
   chainCall,
   groupsCall,
+  lampsCall,
   openSlideCall,
   slideTicksCall,
   readCall,
@@ -59,6 +60,7 @@ pledges =
           (λ κs a r p i. p .answered i ▸ tt ▸ tt ▸ tt ▸ tt ▸ p .written i ▸ tt);
       kerb-groups = one-claim groupsCall _ (λ w κs a. refl) (λ κs a. record { answered = refl; firsts = refl; sizes = refl; holds = refl })
           (λ κs a r p i. p .answered i ▸ tt ▸ tt ▸ p .firsts i ▸ p .sizes i ▸ p .holds i ▸ tt);
+      kerb-lamps = one-claim lampsCall _ (λ w κs a. refl) (λ κs a. refl) (λ κs a r p i. p i ▸ tt ▸ tt ▸ tt ▸ tt);
       kerb-open-slide = one-claim openSlideCall _ (λ w κs a. refl) (λ κs a. refl) (λ κs a r p i. p i ▸ tt ▸ tt);
       kerb-slide-ticks = one-claim slideTicksCall _ (λ w κs a. refl) (λ κs a. refl) (λ κs a r p i. p i ▸ tt ▸ tt ▸ tt);
       kerb-read = one-claim readCall _ (λ w κs a. refl) (λ κs a. refl) (λ κs a r p i. p i ▸ tt ▸ tt);

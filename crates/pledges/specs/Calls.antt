@@ -16,6 +16,7 @@ use Rattle.kerb_file.proofs.kerb_read
 use Rattle.kerb_file.proofs.kerb_write
 use Rattle.kerb_groups.proofs.kerb_groups
 use Rattle.kerb_joined.proofs.kerb_joined
+use Rattle.kerb_lamps.proofs.kerb_lamps
 use Rattle.kerb_opening.proofs.kerb_opening
 use Rattle.kerb_play.proofs.kerb_play
 use Rattle.kerb_slides.proofs.kerb_open_slide
@@ -49,6 +50,9 @@ chainCall = record { ended = kerb_chain.ended; clauses = λ M. kerb_chain.clause
 
 abbrev pub groupsCall : Exported
 groupsCall = record { ended = kerb_groups.ended; clauses = λ M. kerb_groups.clauses; routine = kerb_groups.Symbol.routine }
+
+abbrev pub lampsCall : Exported
+lampsCall = record { ended = kerb_lamps.ended; clauses = λ M. kerb_lamps.clauses; routine = kerb_lamps.Symbol.routine }
 
 abbrev pub openSlideCall : Exported
 openSlideCall = record { ended = kerb_open_slide.ended; clauses = λ M. kerb_open_slide.clauses; routine = kerb_open_slide.Symbol.routine }

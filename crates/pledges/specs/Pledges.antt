@@ -14,6 +14,7 @@ use Rattle.file_record.specs.Record.{packNumber, packedOf, recordOf}
 use Rattle.file_write.specs.Writer.{writeNumber, outputOf}
 use Rattle.listing.specs.Listing.{Listing, listingOf}
 use Rattle.groups.specs.Call.{GroupsOutcome, groupsGiven}
+use Rattle.lamps.specs.Lamps.{lampsOf}
 use Rattle.text_list.specs.Call.{TextIn, textInOf, TextOut, textOutOf}
 use Rattle.kerb.specs.Interface.{version, bookSize}
 use Rattle.pledges.specs.Exported.{Exported, Definition, Pledged}
@@ -26,6 +27,7 @@ use Rattle.pledges.specs.Calls.{
   joinedCall,
   chainCall,
   groupsCall,
+  lampsCall,
   openSlideCall,
   slideTicksCall,
   readCall,
@@ -90,6 +92,8 @@ pub record EachCall (Holds : (f : Exported) → Definition f → Type 2) : Type 
   pub kerb-groups : Holds groupsCall λ κs a. with5 a λ book log first size hold.
       let o : GroupsOutcome = groupsGiven (now book) (now log) (now first) (now size) (now hold) in
       o .answer ▸ kept ▸ kept ▸ o .first ▸ o .size ▸ o .hold ▸ tt
+  pub kerb-lamps : Holds lampsCall λ κs a. with3 a λ book log mask.
+      lampsOf (now book) (now log) (now mask) ▸ kept ▸ kept ▸ kept ▸ tt
   pub kerb-open-slide : Holds openSlideCall λ κs a. with1 a λ book. openSlide (now book .clock) ▸ kept ▸ tt
   pub kerb-slide-ticks : Holds slideTicksCall λ κs a. with2 a λ book slide. ticksOf (now book .clock) slide ▸ kept ▸ kept ▸ tt
   pub kerb-read : Holds readCall λ κs a. with1 a λ file. readOf (now file) ▸ kept ▸ tt

@@ -17,6 +17,7 @@ use Rattle.kerb_file.proofs.kerb_read
 use Rattle.kerb_file.proofs.kerb_write
 use Rattle.kerb_groups.proofs.kerb_groups
 use Rattle.kerb_joined.proofs.kerb_joined
+use Rattle.kerb_lamps.proofs.kerb_lamps
 use Rattle.kerb_opening.proofs.kerb_opening
 use Rattle.kerb_play.proofs.kerb_play
 use Rattle.kerb_slides.proofs.kerb_open_slide
@@ -44,6 +45,7 @@ code-ends =
       kerb-joined = ends (λ M. kerb_joined.Met.met) (pledges .kerb-joined);
       kerb-chain = ends (λ M. kerb_chain.Met.met) (pledges .kerb-chain);
       kerb-groups = ends (λ M. kerb_groups.Met.met) (pledges .kerb-groups);
+      kerb-lamps = ends (λ M. kerb_lamps.Met.met) (pledges .kerb-lamps);
       kerb-open-slide = ends (λ M. kerb_open_slide.Met.met) (pledges .kerb-open-slide);
       kerb-slide-ticks = ends (λ M. kerb_slide_ticks.Met.met) (pledges .kerb-slide-ticks);
       kerb-read = ends (λ M. kerb_read.Met.met) (pledges .kerb-read);

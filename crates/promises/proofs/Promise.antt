@@ -4,6 +4,7 @@ use Rattle.demands.proofs.ChainIs.{chain}
 use Rattle.demands.proofs.FilesRefused.{files-refused}
 use Rattle.demands.proofs.JoinedIs.{joined}
 use Rattle.demands.proofs.Keeps.{keeps}
+use Rattle.demands.proofs.LampsAre.{lamps}
 use Rattle.demands.proofs.NeverOpened.{never-opened}
 use Rattle.demands.proofs.Refused.{refused}
 use Rattle.demands.proofs.Table.{table}
@@ -14,7 +15,7 @@ use Rattle.pledges.proofs.Single.{single}
 use Rattle.text_list.proofs.Texts.{texts}
 use Rattle.promises.specs.Promise.{Kept}
 use Rattle.promises.proofs.Ends.{code-ends}
-use Rattle.promises.proofs.Routines.{code-refuses, code-table, code-joined, code-files, code-chain, code-listing}
+use Rattle.promises.proofs.Routines.{code-refuses, code-table, code-joined, code-files, code-chain, code-lamps, code-listing}
 
 pub kept : Kept
 kept =
@@ -38,6 +39,8 @@ kept =
       table = table;
       code-table = code-table;
       touching = touching;
+      lamps = lamps;
+      code-lamps = code-lamps;
       listing = listed;
       code-listing = code-listing;
       cases = cases;

@@ -29,10 +29,11 @@ use Rattle.demands.proofs.NoEight.{chain-gives}
 use Rattle.demands.proofs.Keeps.{keeps}
 use Rattle.demands.proofs.JoinedIs.{joined-window, joined-steps, joined-few}
 use Rattle.demands.proofs.ChainIs.{answers}
+use Rattle.demands.proofs.LampsAre.{lamps-gives, lamps-number, lamps-fifteen, left-told, right-told}
 use Rattle.demands_listing.proofs.ListedCalls.{plays-told}
 use Rattle.demands_listing.proofs.ListedGroups.{groups-told}
 use Rattle.demands_listing.proofs.ListedPrints.{prints-told}
-use Rattle.promises.specs.Routines.{CodeRefuses, LeftByCalls, CodeTable, CodeJoined, CodeFiles, CodeChain, CodeListed}
+use Rattle.promises.specs.Routines.{CodeRefuses, LeftByCalls, CodeTable, CodeJoined, CodeFiles, CodeChain, CodeLamps, CodeListed}
 use Rattle.promises.proofs.Ends.{code-ends, demanded}
 
 abbrev answerOf : Play → PlayAnswer
@@ -62,6 +63,7 @@ code-refuses =
         groups-gives _ _ _ _ _,
         λ n. let e = files-refused .groups _ _ _ _ _ n in (ap (λ o. o .answer) e, ap (λ o. o .first) e, ap (λ o. o .size) e, ap (λ o. o .hold) e),
       );
+      kerb-lamps = demanded (code-ends .kerb-lamps) λ κs a. (lamps-gives _ _ _, refused .unlit (record { book = now (a .0); log = now (a .1 .0) }) _);
       kerb-read = demanded (code-ends .kerb-read) λ κs a. (read-gives _, λ n. files-refused .read _ (λ e. n (read-gives _ ∙ e)));
       kerb-write = demanded (code-ends .kerb-write) λ κs a. (refl, files-refused .write _ _ _);
       kerb-list = demanded (code-ends .kerb-list) λ κs a.
@@ -116,6 +118,15 @@ code-files =
 
 pub code-chain : CodeChain
 code-chain = demanded (code-ends .kerb-chain) λ κs a h l places are. answers (left-agrees l) _ _ _ places are
+
+pub code-lamps : CodeLamps
+code-lamps = demanded (code-ends .kerb-lamps) λ κs a h l.
+    record {
+      fifteen = lamps-fifteen (left-agrees l) _;
+      number = lamps-number (left-agrees l) _;
+      left = left-told (left-agrees l) _;
+      right = right-told (left-agrees l) _;
+    }
 
 list-done : (t : Bool) (text out : List ℕ) → listedIf t text out .answer .number ≡ 0 →
     (listedIf t text out .answer .length ≡ length text) × (listedIf t text out .output ≡ atFront text out)

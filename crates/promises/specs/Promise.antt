@@ -10,11 +10,11 @@
 -- the code itself (Routines).
 use Rattle.demands.specs.Implementation.{ours}
 use Rattle.demands.specs.Agrees.{Agrees}
-use Rattle.demands.specs.Demands.{AfterCalls, Table, Refused, FilesRefused, NeverOpened, Joined, Files, Chain, Touching}
+use Rattle.demands.specs.Demands.{AfterCalls, Table, Refused, FilesRefused, NeverOpened, Joined, Files, Chain, Touching, Lamps}
 use Rattle.demands_cases.specs.Cases.{Cases}
 use Rattle.demands_listing.specs.Listed.{Listed}
 use Rattle.pledges.specs.Single.{Single}
-use Rattle.promises.specs.Routines.{CodeEnds, CodeRefuses, CodeTable, CodeJoined, CodeFiles, CodeChain, CodeListed}
+use Rattle.promises.specs.Routines.{CodeEnds, CodeRefuses, CodeTable, CodeJoined, CodeFiles, CodeChain, CodeLamps, CodeListed}
 
 -- Every call ends and stays inside its memory for all inputs: bad settings, cells, ticks, files, short buffers, altered books. A refused
 -- call gives the number in the table and alters nothing lent to it.
@@ -52,6 +52,9 @@ pub record Kept : Type 2 where
   pub code-table : CodeTable
   -- only cells that touch are linked (RULES 2.11)
   pub touching : Touching
+  -- the two lamps, by the history and by joined (RULES 11)
+  pub lamps : Lamps ours
+  pub code-lamps : CodeLamps
   -- the listing, the groups call and playing, by the history (RULES 8, 6.6)
   pub listing : Listed
   pub code-listing : CodeListed

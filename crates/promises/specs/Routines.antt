@@ -1,27 +1,33 @@
 -- The demands of the code itself: what each exported routine gives when it is called with anything at all, said of the arguments, the
 -- result and the lent memory afterwards (a name with a stroke). The code meets its contract, and the contract says what the definition
 -- says (the crate pledges); so the code meets what is proved of the definitions.
-use Prim.Native.Nat.{ℕ, _+_, _*_, _≤_}
+use Prim.Native.Nat.{ℕ, _+_, _*_, _≤_, _<_}
 use mathlib.Core.Path.{_≡_}
 use mathlib.Core.Bool.{true, false}
 use mathlib.Core.List.{List}
-use mathlib.Core.Logic.{_↔_}
+use mathlib.Core.Logic.{_↔_, _⊎_}
 use lib.Dec.{leb}
-use lib.ListN.{length, take}
+use lib.ListN.{length, getD, take}
 use denote.Ref.{now}
 use Rattle.numbers.specs.Checks.{unless, has}
 use Rattle.numbers.specs.Front.{atFront}
 use Rattle.numbers.specs.Kinds.{Bytes, Log}
 use Rattle.graph.specs.Link.{Chained}
 use Rattle.settings.specs.declared.Settings.{Settings}
+use Rattle.cells.specs.Cell.{sectors}
 use Rattle.cells.specs.Touching.{touch}
 use Rattle.book_state.specs.declared.Book.{Book}
+use Rattle.book_state.specs.Arrays.{cells}
 use Rattle.book_state.specs.Numbers.{areCells}
 use Rattle.book_state.specs.Order.{inOrder}
 use Rattle.book_joined.specs.Joined.{joinedNumber}
 use Rattle.book.specs.Calls.{openingNumber, linkNumber, clockNumber}
 use Rattle.chain.specs.Chain.{chainPlaces, chainNumber}
 use Rattle.groups.specs.Call.{GroupsOutcome, groupsNumberIn}
+use Rattle.lamps.specs.declared.LampsAnswer.{LampsAnswer}
+use Rattle.lamps.specs.Lamps.{lampsNumberIn}
+use Rattle.lamps.specs.Mask.{isMask}
+use Rattle.lamps.specs.Zones.{leftZone, rightZone}
 use Rattle.file.specs.Layout.{AreBytes, FitsFields, endingSize, recordCount}
 use Rattle.file.specs.Format.{readNumber, readOf}
 use Rattle.file_write.specs.Writer.{writeNumber, outputOf}
@@ -33,12 +39,12 @@ use Rattle.text_list.specs.Reading.{linesOf}
 use Rattle.text_list.specs.Call.{TextIn, textInNumber, textInOf, TextOut, textOutNumber, textOutOf}
 use Rattle.text_list.specs.Promises.{IsTextOf, Taken, BreaksAt}
 use Rattle.pledges.specs.Exported.{Exported, Definition, Met, Pledged, CodeMeets, Gives}
-use Rattle.pledges.specs.Calls.{openingCall, linkCall, clockCall, playCall, joinedCall, chainCall, groupsCall, readCall, writeCall, listCall, textInCall, textOutCall, packCall, unpackCall}
+use Rattle.pledges.specs.Calls.{openingCall, linkCall, clockCall, playCall, joinedCall, chainCall, groupsCall, lampsCall, readCall, writeCall, listCall, textInCall, textOutCall, packCall, unpackCall}
 use Rattle.pledges.specs.Pledges.{with1, with2, with3, with4, with5, EachCall}
 use Rattle.demands.specs.History.{Call, opening, link, clock, History, numberIn, windowOf}
 use Rattle.demands.specs.Implementation.{ours, State, after}
 use Rattle.demands_listing.specs.Listed.{Plays, groupsOutcomeIn, Prints}
-use Rattle.demands.specs.Demands.{roomIn, HasHistory, Stopped, stepsIn, Answers}
+use Rattle.demands.specs.Demands.{roomIn, HasHistory, Stopped, stepsIn, Answers, LampIs}
 
 -- 1. an exported call ends: called with anything, its code ends, touches no memory but its own and what is lent to it, and gives what
 -- the definition says
@@ -74,6 +80,9 @@ pub record CodeRefuses : Type 2 where
       (r .number ≡ groupsNumberIn (inOrder (now book)) (now log) (now first) (now size) (now hold))
       × Refusing (r .number)
       ((r ≡ record { links = 0; number = r .number }) × (now first′ ≡ now first) × (now size′ ≡ now size) × (now hold′ ≡ now hold))
+  pub kerb-lamps : CodeMeets lampsCall λ κs a r e. with3 a λ book log mask.
+      (r .number ≡ lampsNumberIn (inOrder (now book)) (now log) (now mask))
+      × Refusing (r .number) (r ≡ record { «left_cell» = 0; «right_cell» = 0; left = false; right = false; number = r .number })
   pub kerb-read : CodeMeets readCall λ κs a r e. with1 a λ file.
       (r .number ≡ readNumber (now file))
       × Refusing (r .number) (r ≡ record { settings = record { t0 = 0; b = 0; n = 0; mounting = 0 }; m = 0; number = readNumber (now file) })
@@ -167,6 +176,19 @@ CodeChain =
     CodeMeets chainCall λ κs a r e. with5 a λ book log one other chain. with5 e λ book′ log′ one′ other′ chain′.
     (h : History) → LeftByCalls (now book) (now log) h → has chainPlaces (now chain) ≡ true → areCells one other ≡ true →
     Answers ours (record { book = now book; log = now log }) h (now chain) one other (record { answer = r; chain = now chain′ })
+
+-- both lamps (RULES 11): each is lit exactly when its zone has a cell that is an end of a link of the history's window and for which joined
+-- says no with every body cell, and tells the smallest; 15 exactly when the mask is none
+pub record LampsAnswered (book : Book) (log : Log) (h : History) (mask : Bytes) (answer : LampsAnswer) : Type 0 where
+  pub fifteen : (answer .number ≡ 15) ↔ ((length mask < cells) ⊎ ((i : ℕ) × (i < cells) × (1 < getD mask i 0)))
+  pub number : answer .number ≡ unless (isMask cells mask) 15
+  pub left : isMask cells mask ≡ true → LampIs ours (record { book = book; log = log }) h mask (leftZone sectors) (answer .left) (answer .«left_cell»)
+  pub right : isMask cells mask ≡ true → LampIs ours (record { book = book; log = log }) h mask (rightZone sectors) (answer .right) (answer .«right_cell»)
+
+abbrev pub CodeLamps : Type 2
+CodeLamps =
+    CodeMeets lampsCall λ κs a r e. with3 a λ book log mask.
+    (h : History) → LeftByCalls (now book) (now log) h → LampsAnswered (now book) (now log) h (now mask) r
 
 -- playing, the groups and the listing (RULES 6.6, 8), by the history: the listing's text is said of it by `Prints` (Listed)
 pub record CodeListed : Type 2 where

@@ -16,7 +16,7 @@ use Rattle.book_state.specs.Arrays.{cells}
 use Rattle.slides.specs.declared.Clock.{Clock}
 use Rattle.window.specs.Window.{windowLinks, linksFromLabel}
 use Rattle.window_groups.specs.Groups.{groupOf, smallest, groupsOf}
-use Rattle.window_groups.proofs.Cells.{in-count, in-filter, filter-in, filter-agree}
+use Rattle.window_groups.proofs.Cells.{in-count, count-in, in-filter, filter-in, filter-agree}
 
 smallest-in : (cs : List ℕ) {c : ℕ} → List·Memᴰ c cs → List·Memᴰ (smallest cs) cs
 unfolding smallest
@@ -24,11 +24,17 @@ smallest-in [] m = elim m [ ]
 smallest-in (c ∷ cs) m = List·Memᴰ·head refl
 
 module _ (xs : List Labelled) where
-  -- a cell is chained with the smallest cell of its group
+  -- a cell is in its own group
+  own : (c : ℕ) → c < cells → List·Memᴰ c (groupOf xs c)
+  own c h = in-filter _ (in-count 0 cells zero-le (omega arith)) (true-chains (same refl))
+
+  -- it is chained with the smallest cell of its group
   chained-smallest : (c : ℕ) → c < cells → Chained (linksFromLabel 1 xs) c (smallest (groupOf xs c))
-  chained-smallest c h =
-      let own : List·Memᴰ c (groupOf xs c) = in-filter _ (in-count 0 cells zero-le (omega arith)) (true-chains (same refl)) in
-      chains-true _ c _ (filter-in _ (countFrom 0 cells) (smallest-in (groupOf xs c) own) .0)
+  chained-smallest c h = chains-true _ c _ (filter-in _ (countFrom 0 cells) (smallest-in (groupOf xs c) (own c h)) .0)
+
+  -- and that is a cell
+  pub smallest-below : (c : ℕ) → c < cells → smallest (groupOf xs c) < cells
+  smallest-below c h = count-in 0 cells (filter-in _ (countFrom 0 cells) (smallest-in (groupOf xs c) (own c h)) .1) .1
 
   pub same-group : (c d : ℕ) → Chained (linksFromLabel 1 xs) c d → groupOf xs c ≡ groupOf xs d
   unfolding chains

@@ -5,7 +5,7 @@ use crate::any_book::AnyBook;
 use crate::library::Library;
 use crate::peer;
 use crate::workload::{Calls, Workload};
-use kerb::calls::{self, ChainAnswer, JoinedAnswer, Settings};
+use kerb::calls::{self, ChainAnswer, JoinedAnswer, LampsAnswer, Settings};
 use kerb::CHAIN_PLACES;
 use streams::texts::Texts;
 use streams::{lent_bytes, Call};
@@ -16,6 +16,7 @@ enum Answer {
     Number(u8),
     Joined(JoinedAnswer),
     Chain(ChainAnswer, Vec<u16>),
+    Lamps(LampsAnswer),
 }
 
 pub fn check<C: AnyBook>(workload: &Workload, name: &str) {
@@ -56,6 +57,10 @@ fn answers<C: AnyBook>(book: &mut C, calls: &Calls, steps: bool, chains: bool) -
                 let mut lent = vec![u16::MAX; CHAIN_PLACES];
                 Answer::Chain(book.chain(one, other, &mut lent), lent)
             })
+            .collect(),
+        Calls::Lamps(masks) => masks
+            .iter()
+            .map(|mask| Answer::Lamps(book.lamps(mask)))
             .collect(),
     }
 }

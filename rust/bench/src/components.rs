@@ -1,9 +1,9 @@
 //! Baseline (c): connected components of the window by union-find. `EACH_CHANGE` recomputes them for each change of the window;
 //! its better sibling adds links as they come and rebuilds once a slide. It counts no steps and finds no chain.
 
-use crate::any_book::{chain_refused, joined_refused, AnyBook};
+use crate::any_book::{chain_refused, joined_refused, lamps_by, lamps_refused, of_cells, AnyBook};
 use crate::window::{are_cells, Window, CELLS};
-use kerb::calls::{ChainAnswer, JoinedAnswer};
+use kerb::calls::{ChainAnswer, JoinedAnswer, LampsAnswer};
 use kerb::Settings;
 
 /// Groups of cells; parents are shortened on the way.
@@ -113,5 +113,20 @@ impl<const EACH_CHANGE: bool> AnyBook for Components<EACH_CHANGE> {
 
     fn chain(&mut self, _one: u16, _other: u16, _lent: &mut [u16]) -> ChainAnswer {
         chain_refused(7)
+    }
+
+    /// No link is of a cell with itself, so the ends of links are the cells of groups of two or more.
+    fn lamps(&mut self, mask: &[u8]) -> LampsAnswer {
+        let Some(body) = of_cells(mask) else {
+            return lamps_refused(15);
+        };
+        let mut dark = [false; CELLS];
+        for (cell, _) in (0..).zip(body).filter(|of| *of.1 == 1) {
+            dark[self.groups.root(cell)] = true;
+        }
+        lamps_by(|cell| {
+            let root = self.groups.root(cell);
+            self.groups.size[root] > 1 && !dark[root]
+        })
     }
 }

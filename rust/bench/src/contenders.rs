@@ -35,7 +35,7 @@ fn contender<C: AnyBook>(
 }
 
 /// The peer of each call: the quickest method that we know, and by which (a), and (b) without number 1, make it.
-pub const METHODS: [(&str, &str); 7] = [
+pub const METHODS: [(&str, &str); 8] = [
     (
         Kind::Link.name(),
         "two walks in the forest in place; number 1 by the size test",
@@ -53,6 +53,10 @@ pub const METHODS: [(&str, &str); 7] = [
         "links united newest first, slide by slide, until the two meet; then a search by levels over the links from L on, up to the first cell",
     ),
     (
+        Kind::Lamps.name(),
+        "one pass over the links, newest first, united in scratch memory with their ends marked; then the groups of the bodywork are marked, and the zones gone through upwards",
+    ),
+    (
         "kerblist",
         "number 1 asked at no record; groups by links united newest first",
     ),
@@ -65,6 +69,9 @@ pub const METHODS: [(&str, &str); 7] = [
         "one pass over the records, two digits at a time; the text is measured first only where the longest lines would not fit",
     ),
 ];
+
+/// The calls of those that keep components.
+const OF_COMPONENTS: [Kind; 4] = [Kind::Link, Kind::ChunkEnd, Kind::Joined, Kind::Lamps];
 
 pub fn all() -> [Contender; 7] {
     [
@@ -87,12 +94,12 @@ pub fn all() -> [Contender; 7] {
         contender::<Components<true>>(
             "(c)",
             "connected components recomputed for each change of the window (union-find); no steps, no chain, no number 1",
-            &[Kind::Link, Kind::ChunkEnd, Kind::Joined],
+            &OF_COMPONENTS,
         ),
         contender::<Components<false>>(
             "(c')",
             "its sibling that adds links and rebuilds once a slide",
-            &[Kind::Link, Kind::ChunkEnd, Kind::Joined],
+            &OF_COMPONENTS,
         ),
         contender::<Search>(
             "(d)",

@@ -1,8 +1,8 @@
 //! The proved library, through the safe wrapper over its static archive, as a panel program uses it: the book stays where it
 //! is, and what the wrapper costs counts as the library's.
 
-use crate::any_book::{chain_refused, joined_refused, AnyBook};
-use kerb::calls::{ChainAnswer, JoinedAnswer};
+use crate::any_book::{chain_refused, joined_refused, lamps_refused, AnyBook};
+use kerb::calls::{ChainAnswer, JoinedAnswer, LampsAnswer};
 use kerb::{Book, LorryCell, Refusal, Settings, UnitCell};
 
 pub struct Library(pub Book);
@@ -47,6 +47,20 @@ impl AnyBook for Library {
                 number: 0,
             },
             Err(refusal) => chain_refused(refusal.number()),
+        }
+    }
+
+    fn lamps(&mut self, mask: &[u8]) -> LampsAnswer {
+        let cell = |lit: Option<LorryCell>| lit.map_or(0, |cell| cell.0);
+        match self.0.lamps(mask) {
+            Ok(given) => LampsAnswer {
+                left_cell: cell(given.left),
+                right_cell: cell(given.right),
+                left: given.left.is_some(),
+                right: given.right.is_some(),
+                number: 0,
+            },
+            Err(refusal) => lamps_refused(refusal.number()),
         }
     }
 }

@@ -52,6 +52,10 @@ impl Neighbours {
         self.places.push((next, neighbour));
     }
 
+    pub fn has_any(&self, cell: u16) -> bool {
+        self.first[usize::from(cell)] != NONE
+    }
+
     pub fn of(&self, cell: u16) -> impl Iterator<Item = u16> + '_ {
         let mut place = self.first[usize::from(cell)];
         std::iter::from_fn(move || {

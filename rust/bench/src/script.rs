@@ -1,10 +1,11 @@
 //! A workload as it is written down, slide by slide. The oracle's book beside it says which cells are joined, so that chains can
 //! be asked for where there are some.
 
-use crate::workload::{Batch, Calls, Kind, Pair, Workload};
+use crate::workload::{Batch, Calls, Kind, Mask, Pair, Workload};
 use kerb::{Mounting, Settings};
 use oracle::{Book, LOG_PLACES};
 use std::collections::VecDeque;
+use streams::masks::mask_of;
 use streams::touching::{path, touching_cell};
 use streams::Dice;
 
@@ -12,6 +13,8 @@ use streams::Dice;
 const B: u32 = 100;
 /// Chains asked for at a time, at most.
 const CHAINS: usize = 8;
+/// How often the lamps are asked for by each of two masks.
+const LAMPS: usize = 4;
 
 pub struct Script {
     pub workload: Workload,
@@ -74,7 +77,7 @@ impl Script {
         }
     }
 
-    /// Asks whether the pairs are joined, and for the chains of some that are; where none are, for that of a link.
+    /// Asks whether the pairs are joined, and for the chains of some that are; where none are, for that of a link. Then for the lamps.
     pub fn ask(&mut self, pairs: Vec<Pair>) {
         let chained = |&(one, other): &Pair| {
             let answer = self.book.joined(u32::from(one), u32::from(other));
@@ -86,6 +89,17 @@ impl Script {
         }
         self.push(Calls::Joined(pairs), Some(Kind::Joined));
         self.push(Calls::Chains(chains), Some(Kind::Chain));
+        let masks = [self.some_things(), mask_of(&[]).into()];
+        let masks = vec![masks; LAMPS].concat();
+        self.push(Calls::Lamps(masks), Some(Kind::Lamps));
+    }
+
+    /// Every second thing of the window, from the first on, as the lorry's own bodywork.
+    fn some_things(&self) -> Mask {
+        let history = self.book.history.as_ref().expect("an opened book");
+        let things = history.groups().into_iter().step_by(2);
+        let cells: Vec<u32> = things.flat_map(|thing| thing.cells()).collect();
+        mask_of(&cells).into()
     }
 
     /// Asks about two cells, both ways round, several times.

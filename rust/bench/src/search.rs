@@ -1,11 +1,12 @@
 //! Baseline (d): nothing is kept but the window's links, and each question is a search of them. For the chain a search from the first cell over
 //! the newest slide's links, that goes on as each older slide's are added: the slide at which it meets the second cell is L, and nothing
-//! older is looked at; then the fewest links, then the first by cell numbers. It counts no steps.
+//! older is looked at; then the fewest links, then the first by cell numbers. For the lamps a search from all body cells at once. It counts
+//! no steps.
 
-use crate::any_book::{chain_refused, joined_refused, AnyBook};
+use crate::any_book::{chain_refused, joined_refused, lamps_by, lamps_refused, of_cells, AnyBook};
 use crate::neighbours::Neighbours;
 use crate::window::{are_cells, Link, Window, CELLS};
-use kerb::calls::{ChainAnswer, JoinedAnswer};
+use kerb::calls::{ChainAnswer, JoinedAnswer, LampsAnswer};
 use kerb::Settings;
 
 pub struct Search {
@@ -36,6 +37,14 @@ impl Search {
             }
         }
         None
+    }
+
+    /// Lists all links of the window.
+    fn list(&mut self) {
+        self.neighbours.clear();
+        for link in self.window.links() {
+            self.neighbours.add(link.one, link.other);
+        }
     }
 
     /// Goes on from cells that were just reached, as far as it can.
@@ -81,10 +90,7 @@ impl AnyBook for Search {
         if !are_cells(one, other) {
             return joined_refused(3);
         }
-        self.neighbours.clear();
-        for link in self.window.links() {
-            self.neighbours.add(link.one, link.other);
-        }
+        self.list();
         let far = self.neighbours.search(one, other);
         JoinedAnswer {
             number: 0,
@@ -119,5 +125,18 @@ impl AnyBook for Search {
                 number: 0,
             },
         }
+    }
+
+    fn lamps(&mut self, mask: &[u8]) -> LampsAnswer {
+        let Some(body) = of_cells(mask) else {
+            return lamps_refused(15);
+        };
+        self.list();
+        let mut dark = [false; CELLS];
+        let mut reached: Vec<u16> = (0..CELLS as u16)
+            .filter(|&cell| body[usize::from(cell)] == 1)
+            .collect();
+        self.spread(&mut dark, &mut reached);
+        lamps_by(|cell| self.neighbours.has_any(cell) && !dark[usize::from(cell)])
     }
 }

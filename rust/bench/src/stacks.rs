@@ -63,7 +63,13 @@ fn questions(stacks: &mut Vec<Stack>) {
         black_box(library.chain(one, other, &mut lent));
     });
     stacks.push(("chain of 1,023 links", chain));
-    stacks.push(("groups", groups(&played(&dense(16, 256)).0)));
+    let (mut library, _) = played(&dense(16, 256));
+    stacks.push(("groups", groups(&library)));
+    let mask = [0; kerb::CELLS];
+    let lamps = used(|| {
+        black_box(library.lamps(&mask));
+    });
+    stacks.push(("lamps", lamps));
 }
 
 fn groups(library: &Library) -> usize {
@@ -99,7 +105,7 @@ fn played(workload: &Workload) -> (Box<Library>, Pair) {
                 }
             }
             Calls::Joined(pairs) => asked = pairs[0],
-            Calls::Chains(_) => {}
+            Calls::Chains(_) | Calls::Lamps(_) => {}
         }
     }
     (library, asked)

@@ -42,6 +42,11 @@ fn call<C: AnyBook>(book: &mut C, calls: &Calls, lent: &mut [u16]) {
             }
         }
         Calls::Chains(_) => {}
+        Calls::Lamps(masks) => {
+            for mask in masks {
+                black_box(book.lamps(black_box(mask)));
+            }
+        }
     }
 }
 

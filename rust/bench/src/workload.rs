@@ -1,9 +1,13 @@
 //! What is played: calls in batches. Everyone is given the same calls in the same order.
 
 use kerb::Settings;
+use std::rc::Rc;
 
 /// The cells of a question or of a link.
 pub type Pair = (u16, u16);
+
+/// A body mask. The calls of a batch that are given the same one share it.
+pub type Mask = Rc<[u8]>;
 
 /// What the calls of a batch are, and so which line of the table they count for.
 #[derive(Clone, Copy, PartialEq, Eq)]
@@ -12,9 +16,16 @@ pub enum Kind {
     ChunkEnd,
     Joined,
     Chain,
+    Lamps,
 }
 
-pub const KINDS: [Kind; 4] = [Kind::Link, Kind::ChunkEnd, Kind::Joined, Kind::Chain];
+pub const KINDS: [Kind; 5] = [
+    Kind::Link,
+    Kind::ChunkEnd,
+    Kind::Joined,
+    Kind::Chain,
+    Kind::Lamps,
+];
 
 impl Kind {
     pub const fn name(self) -> &'static str {
@@ -23,6 +34,7 @@ impl Kind {
             Kind::ChunkEnd => "clock over a chunk's end",
             Kind::Joined => "joined",
             Kind::Chain => "chain",
+            Kind::Lamps => "lamps",
         }
     }
 }
@@ -34,6 +46,7 @@ pub enum Calls {
     Links(u32, Vec<Pair>),
     Joined(Vec<Pair>),
     Chains(Vec<Pair>),
+    Lamps(Vec<Mask>),
 }
 
 /// Calls that are timed together; those that only lead up to others count for no line.
@@ -47,6 +60,7 @@ impl Batch {
         match &self.calls {
             Calls::Clock(_) => 1,
             Calls::Links(_, pairs) | Calls::Joined(pairs) | Calls::Chains(pairs) => pairs.len(),
+            Calls::Lamps(masks) => masks.len(),
         }
     }
 }

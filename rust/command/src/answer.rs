@@ -1,6 +1,8 @@
 //! From a question to the text and the status of its answer.
 
-use crate::args::{Input, Output, Question, Request};
+use crate::args::{Body, Input, Output, Question, Request};
+use crate::body::{self, Mask};
+use crate::lamps::lamps;
 use crate::recording::Recording;
 use crate::trouble::{About, Refused, Trouble};
 use crate::{json, standard, text, words};
@@ -53,6 +55,13 @@ pub fn answer(Request { question, as_json }: Request) -> Result<Answer, Trouble>
             let groups = recording.groups().map_err(refused(as_json))?;
             let said = if as_json { json::groups } else { words::groups };
             Ok(Answer::of(said(&recording, &groups)))
+        }
+        Question::Lamps { input, body, at } => {
+            let body = mask(body)?;
+            let recording = Recording::played(&recording(&input)?, at).map_err(refused(as_json))?;
+            let lamps = lamps(&recording, &body).map_err(refused(as_json))?;
+            let said = if as_json { json::lamps } else { words::lamps };
+            Ok(Answer::of(said(&recording, &body, &lamps)))
         }
         Question::Cell { number, mounting } => {
             let mountings = mountings(number, mounting).map_err(refused(as_json))?;
@@ -131,6 +140,23 @@ fn mountings(number: u16, mounting: Option<u8>) -> Result<Vec<Mounting>, Refused
     }
 }
 
+/// The mask of the bodywork, whose list may be in a file.
+fn mask(body: Body) -> Result<Mask, Trouble> {
+    let input = match body {
+        Body::Cells(mask) => return Ok(mask),
+        Body::In(input) => input,
+    };
+    let name = name(&input);
+    let list = read(&input, "a list of cells", u64::MAX).map_err(|error| {
+        let name = format!("{name}, taken for the file of --body,"); // who mistyped a list has named no file
+        Trouble::Unread(name, error)
+    })?;
+    body::mask(&String::from_utf8_lossy(&list)).map_err(|fault| {
+        let (line, what) = (fault.line, fault.what);
+        Trouble::Use(format!("{name}, line {line} (counted from 1): {what}"))
+    })
+}
+
 /// The recording's bytes, at most one more than the longest link file has: enough to tell that a file is too long.
 fn recording(input: &Input) -> Result<Vec<u8>, Trouble> {
     bytes(input, "a recording", kerb::FILE_BYTES as u64 + 1)
@@ -138,17 +164,21 @@ fn recording(input: &Input) -> Result<Vec<u8>, Trouble> {
 
 /// The first bytes of what is read, as many as there are up to `most`.
 fn bytes(input: &Input, what: &str, most: u64) -> Result<Vec<u8>, Trouble> {
-    let (name, read) = match input {
-        Input::Standard => {
-            let front = standard::input().and_then(|from| front(from, what, most));
-            ("standard input".to_string(), front)
-        }
-        Input::File(path) => {
-            let front = File::open(path).and_then(|from| front(from, what, most));
-            (path.display().to_string(), front)
-        }
-    };
-    read.map_err(|error| Trouble::Unread(name, error))
+    read(input, what, most).map_err(|error| Trouble::Unread(name(input), error))
+}
+
+fn read(input: &Input, what: &str, most: u64) -> io::Result<Vec<u8>> {
+    match input {
+        Input::Standard => front(standard::input()?, what, most),
+        Input::File(path) => front(File::open(path)?, what, most),
+    }
+}
+
+fn name(input: &Input) -> String {
+    match input {
+        Input::Standard => "standard input".to_string(),
+        Input::File(path) => path.display().to_string(),
+    }
 }
 
 fn front(from: impl Read + IsTerminal, what: &str, most: u64) -> io::Result<Vec<u8>> {

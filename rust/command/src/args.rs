@@ -1,5 +1,6 @@
 //! The command line: which question, of which recording or text.
 
+use crate::body::{self, Mask};
 use crate::help;
 use crate::trouble::Trouble;
 use kerb::calls::Settings;
@@ -12,6 +13,14 @@ use std::path::PathBuf;
 pub enum Input {
     Standard,
     File(PathBuf),
+}
+
+/// The lorry's own bodywork, as `--body` tells it.
+#[derive(Debug, PartialEq)]
+pub enum Body {
+    Cells(Mask),
+    /// A list that is still to be read.
+    In(Input),
 }
 
 /// Where the answer goes.
@@ -44,6 +53,11 @@ pub enum Question {
         input: Input,
         at: Option<u32>,
     },
+    Lamps {
+        input: Input,
+        body: Body,
+        at: Option<u32>,
+    },
     Cell {
         number: u16,
         /// The number of a mounting, whether or not there is such a one.
@@ -62,13 +76,14 @@ pub enum Question {
 }
 
 /// The commands whose answers can be had as JSON.
-const ANSWERS: &[&str] = &["list", "why", "groups", "cell"];
+const ANSWERS: &[&str] = &["list", "why", "groups", "lamps", "cell"];
 
 /// The words of a command line, options apart from the rest.
 #[derive(Default)]
 struct Words {
     plain: Vec<OsString>,
     at: Option<OsString>,
+    body: Option<OsString>,
     n: Option<OsString>,
     b: Option<OsString>,
     mounting: Option<OsString>,
@@ -87,7 +102,7 @@ pub fn parse(words: impl Iterator<Item = OsString>) -> Result<Request, Trouble> 
     } else if words.plain.is_empty() {
         if !words.help {
             return Err(wrong(
-                "which command? list, why, groups, cell, to-file, to-text or help",
+                "which command? list, why, groups, lamps, cell, to-file, to-text or help",
             ));
         }
         Question::Help(help::ALL)
@@ -104,7 +119,9 @@ fn question(command: &OsStr, mut words: Words) -> Result<Question, Trouble> {
     if words.help {
         return Ok(Question::Help(text));
     }
-    takes(name, "--at", words.at.is_some(), &["why", "groups"])?;
+    let at = words.at.is_some();
+    takes(name, "--at", at, &["why", "groups", "lamps"])?;
+    takes(name, "--body", words.body.is_some(), &["lamps"])?;
     let mounted = words.mounting.is_some();
     takes(name, "--mounting", mounted, &["cell", "to-file"])?;
     takes(name, "--n", words.n.is_some(), &["to-file"])?;
@@ -129,6 +146,16 @@ fn question(command: &OsStr, mut words: Words) -> Result<Question, Trouble> {
                 input: only_input(name, plain)?,
                 at: words.at.map(tick).transpose()?,
             })
+        }
+        "lamps" => {
+            let (input, body) = (only_input(name, plain)?, body(words.body)?);
+            if input == Input::Standard && body == Body::In(Input::Standard) {
+                return Err(wrong(
+                    "the recording and the bodywork cannot both be standard input",
+                ));
+            }
+            let at = words.at.map(tick).transpose()?;
+            Ok(Question::Lamps { input, body, at })
         }
         "cell" => {
             let [number] = plain.as_slice() else {
@@ -181,6 +208,7 @@ fn sorted(mut all: impl Iterator<Item = OsString>) -> Result<Words, Trouble> {
             ("--version" | "-V", None) => words.version = true,
             ("--json", None) => words.json = true,
             ("--at", _) => once(&mut words.at, name, joined.or_else(|| all.next()))?,
+            ("--body", _) => once(&mut words.body, name, joined.or_else(|| all.next()))?,
             ("--n", _) => once(&mut words.n, name, joined.or_else(|| all.next()))?,
             ("--b", _) => once(&mut words.b, name, joined.or_else(|| all.next()))?,
             ("--mounting", _) => once(&mut words.mounting, name, joined.or_else(|| all.next()))?,
@@ -214,10 +242,36 @@ fn only_input(command: &str, plain: &mut Vec<OsString>) -> Result<Input, Trouble
     if !plain.is_empty() {
         return Err(wrong(&format!("{command} takes one file")));
     }
-    Ok(match word {
+    Ok(input(word))
+}
+
+fn input(word: Option<OsString>) -> Input {
+    match word {
         Some(name) if name != "-" => Input::File(name.into()),
         _ => Input::Standard,
-    })
+    }
+}
+
+/// The value of `--body`: `none`, a list, which has nothing but digits, commas, minus signs and blanks, or else the name of a file.
+fn body(word: Option<OsString>) -> Result<Body, Trouble> {
+    let Some(word) = word else {
+        return Err(wrong(
+            "lamps wants --body LIST, the cells of the lorry's own bodywork; --body none says that there are none",
+        ));
+    };
+    let of_list = |of: char| of.is_ascii_digit() || of == ',' || of == '-' || of.is_whitespace();
+    let list = match word.to_str() {
+        Some("none") => return Ok(Body::Cells(body::nothing())),
+        Some(list) if list != "-" && list.chars().all(of_list) => list,
+        _ => return Ok(Body::In(input(Some(word)))),
+    };
+    let mask = body::mask(list).map_err(|fault| wrong(&format!("--body: {}", fault.what)))?;
+    if mask == body::nothing() {
+        return Err(wrong(
+            "--body has no cell; --body none says that there is no bodywork",
+        ));
+    }
+    Ok(Body::Cells(mask))
 }
 
 /// The value of `-o`; none, or `-`, is standard output.
@@ -257,26 +311,27 @@ fn settings(
     })
 }
 
-/// A number of digits alone; none where it passes 64 bits, which is more than anything here takes.
-fn number(word: &OsStr, what: &str) -> Result<Option<u64>, Trouble> {
-    let text = word.to_str().unwrap_or("");
-    if text.is_empty() || !text.bytes().all(|byte| byte.is_ascii_digit()) {
+/// A number of digits alone. One that passes 64 bits is given as the largest of these: nothing here takes it either.
+pub fn digits(text: &str) -> Option<u64> {
+    let good = !text.is_empty() && text.bytes().all(|byte| byte.is_ascii_digit());
+    good.then(|| text.parse().unwrap_or(u64::MAX))
+}
+
+fn number(word: &OsStr, what: &str) -> Result<u64, Trouble> {
+    word.to_str().and_then(digits).ok_or_else(|| {
         let word = word.to_string_lossy();
-        return Err(wrong(&format!(
-            "{word} is not a number: {what} is wanted here"
-        )));
-    }
-    Ok(text.parse().ok())
+        wrong(&format!("{word} is not a number: {what} is wanted here"))
+    })
 }
 
 /// A number for a cell. What a cell is, the library judges: a number beyond 16 bits is put to it as the largest that it takes.
 fn cell(word: &OsStr) -> Result<u16, Trouble> {
-    let number = number(word, "a cell")?.unwrap_or(u64::MAX);
+    let number = number(word, "a cell")?;
     Ok(u16::try_from(number).unwrap_or(u16::MAX))
 }
 
 fn tick(word: OsString) -> Result<u32, Trouble> {
-    let number = number(&word, "a tick")?.unwrap_or(u64::MAX);
+    let number = number(&word, "a tick")?;
     u32::try_from(number).map_err(|_| {
         let (word, most) = (word.to_string_lossy(), u32::MAX);
         wrong(&format!("{word} is no tick: ticks go from 0 to {most}"))
@@ -285,13 +340,13 @@ fn tick(word: OsString) -> Result<u32, Trouble> {
 
 /// n. A number beyond 8 bits is put to the library as the largest that it takes, which it refuses.
 fn slides(word: &OsStr) -> Result<u8, Trouble> {
-    let number = number(word, "n")?.unwrap_or(u64::MAX);
+    let number = number(word, "n")?;
     Ok(u8::try_from(number).unwrap_or(u8::MAX))
 }
 
 /// B. A number beyond 32 bits is put to the library as 0, the one that it refuses.
 fn slide_length(word: &OsStr) -> Result<u32, Trouble> {
-    let number = number(word, "B")?.unwrap_or(u64::MAX);
+    let number = number(word, "B")?;
     Ok(u32::try_from(number).unwrap_or(0))
 }
 
@@ -302,7 +357,7 @@ fn mounting(word: OsString) -> Result<u8, Trouble> {
         Some("mirrored") => return Ok(Mounting::Mirrored.number()),
         _ => (),
     }
-    let number = number(&word, "a mounting")?.unwrap_or(u64::MAX);
+    let number = number(&word, "a mounting")?;
     Ok(u8::try_from(number).unwrap_or(u8::MAX))
 }
 

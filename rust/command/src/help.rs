@@ -8,6 +8,7 @@ pub fn of(name: &OsStr) -> Option<(&'static str, &'static str)> {
         ("list", LIST),
         ("why", WHY),
         ("groups", GROUPS),
+        ("lamps", LAMPS),
         ("cell", CELL),
         ("to-file", TO_FILE),
         ("to-text", TO_TEXT),
@@ -22,17 +23,19 @@ kerb: ask a recording (a link file) what the panel saw as one thing, and why
   kerb list [FILE]                     what kerblist prints: the window, its groups, its links
   kerb why [FILE] ONE OTHER            the chain that joins two cells, and until when it does
   kerb groups [FILE]                   each group with all its cells, and until when it holds
+  kerb lamps [FILE] --body LIST        which lamp is lit, by which cell; what keeps a dark one dark
   kerb cell N                          ring and sector of a cell, the unit's and the lorry's number
   kerb to-file SETTINGS [TEXT]         a text list of links brought into a link file
   kerb to-text [FILE]                  a link file put out as a text list, with its settings
   kerb help [COMMAND]                  this page, or that of a command
   kerb --version
 
-  --at TICK        why, groups: as it was at that tick
+  --at TICK        why, groups, lamps: as it was at that tick
+  --body LIST      lamps: the bodywork's cells, as 94-96,128; or a file that has them; or none
   --mounting M     cell, to-file: how the unit is fitted, 1 (plain) or 2 (mirrored)
   --n, --b, --t0   to-file: the other settings; all four are wanted
   -o FILE          to-file, to-text: the file to write, whole or not at all
-  --json           list, why, groups, cell: the answer as one line of JSON
+  --json           list, why, groups, lamps, cell: the answer as one line of JSON
 
 No FILE or TEXT, or -, is standard input. Cells are numbered as the lorry has them, in text lists
 as the unit has them.
@@ -73,6 +76,29 @@ Each group of two cells or more that links of the window tie together: all its c
 numbers, its least hold, and until which tick all of them stay together if nothing more is seen.
 
 --at TICK plays only the records up to that tick and then moves the clock to it.
+";
+
+const LAMPS: &str = "\
+kerb lamps [FILE] --body LIST [--at TICK] [--json]
+
+Which of the two lamps is lit, and why. The left lamp's zone is sectors 33 to 63, the right one's sectors
+1 to 31, both in rings 0 to 5. A lamp is lit where its zone has a cell that is an end of a link of the
+window and that is joined with no cell of the lorry's own bodywork.
+
+Of a lit lamp the smallest such cell is told, with its ring and sector. Of a dark one the linked cells of
+its zone, those that are bodywork and those that are tied to it; for the smallest that is tied the chain
+to the bodywork, as kerb why tells it; and when the lamp comes on if nothing more is seen. Where several
+cells of the bodywork are joined with it, the chain is the one that ties it for longest, of those the one
+with the fewest links, of those the first by cell numbers.
+
+LIST says which cells are bodywork, in the lorry's numbers: cells and ranges, as 94,95,96 or 64-70,128;
+or none, where there is no bodywork; or else the name of a file that has such a list. In a file the cells
+stand on any number of lines, parted by commas or blanks, and from # on a line is a remark; an empty file
+says that there is no bodywork. - is standard input.
+
+--at TICK plays only the records up to that tick and then moves the clock to it.
+
+Status 0: told, whether lit or dark.
 ";
 
 const CELL: &str = "\

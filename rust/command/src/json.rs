@@ -1,5 +1,7 @@
 //! The answers for programs: just as much JSON as they need.
 
+use crate::body;
+use crate::lamps::{Lamp, Side, Tied};
 use crate::recording::{Group, Groups, Moment, Recording, Seen, Why};
 use kerb::{LorryCell, Mounting, UnitCell};
 use std::fmt;
@@ -12,8 +14,10 @@ pub enum Json {
     /// A text of the program's own: nothing in it needs an escape.
     Text(&'static str),
     List(Vec<Json>),
-    Object(Vec<(&'static str, Json)>),
+    Object(Fields),
 }
+
+type Fields = Vec<(&'static str, Json)>;
 
 impl<N: Into<u64>> From<N> for Json {
     fn from(number: N) -> Json {
@@ -90,34 +94,33 @@ pub fn why(
         ("other", Json::from(other.0)),
     ];
     fields.extend(moment(recording.now()));
-    if let Some(why) = why {
-        let link = |link: &Seen| {
-            let mut fields = vec![
-                ("one", Json::from(link.one.0)),
-                ("other", Json::from(link.other.0)),
-            ];
-            fields.extend(moment(link.last));
-            Json::Object(fields)
-        };
-        fields.push((
-            "chain",
-            Json::list(why.chain.iter().map(|&cell| place(cell))),
-        ));
-        fields.push(("links", Json::list(why.links.iter().map(link))));
-        fields.push(("newest", ticks_of(why.newest, why.newest_ticks)));
-        fields.push(("hold", Json::from(why.hold)));
-        fields.push(("until", Json::or_null(why.until)));
-    }
+    fields.extend(why.map(chain).unwrap_or_default());
     Json::Object(fields).line()
+}
+
+fn chain(why: &Why) -> Fields {
+    let link = |link: &Seen| {
+        let mut fields = vec![
+            ("one", Json::from(link.one.0)),
+            ("other", Json::from(link.other.0)),
+        ];
+        fields.extend(moment(link.last));
+        Json::Object(fields)
+    };
+    let cells = why.chain.iter().map(|&cell| Json::Object(place(cell)));
+    vec![
+        ("chain", Json::list(cells)),
+        ("links", Json::list(why.links.iter().map(link))),
+        ("newest", ticks_of(why.newest, why.newest_ticks)),
+        ("hold", Json::from(why.hold)),
+        ("until", Json::or_null(why.until)),
+    ]
 }
 
 pub fn groups(recording: &Recording, groups: &Groups) -> String {
     let group = |group: &Group| {
         Json::Object(vec![
-            (
-                "cells",
-                Json::list(group.cells.iter().map(|cell| Json::from(cell.0))),
-            ),
+            ("cells", numbers(group.cells.iter().copied())),
             ("hold", Json::from(group.hold)),
             ("until", Json::or_null(group.until)),
         ])
@@ -128,33 +131,72 @@ pub fn groups(recording: &Recording, groups: &Groups) -> String {
     Json::Object(fields).line()
 }
 
+pub fn lamps(recording: &Recording, body: &[u8], lamps: &[Lamp; 2]) -> String {
+    let mut fields = moment(recording.now());
+    fields.push(("body", numbers(body::cells(body))));
+    for (side, lamp) in Side::BOTH.iter().zip(lamps) {
+        fields.push((side.name(), state(lamp)));
+    }
+    Json::Object(fields).line()
+}
+
+fn state(lamp: &Lamp) -> Json {
+    let mut fields = vec![("lit", Json::Yes(matches!(lamp, Lamp::Lit(_))))];
+    match lamp {
+        Lamp::Lit(cell) => fields.extend(place(*cell)),
+        Lamp::Dark { bodywork, tied } => {
+            let reason = match tied {
+                Some(_) => "tied",
+                None if bodywork.is_empty() => "unlinked",
+                None => "bodywork",
+            };
+            fields.push(("reason", Json::Text(reason)));
+            fields.push(("bodywork", numbers(bodywork.iter().copied())));
+            fields.extend(tied.as_ref().map(keeps_dark).unwrap_or_default());
+        }
+    }
+    Json::Object(fields)
+}
+
+fn keeps_dark(tied: &Tied) -> Fields {
+    let mut fields = vec![("tied", numbers(tied.cells.iter().copied()))];
+    fields.extend(chain(&tied.why));
+    let lights = tied.lights.map_or(Json::Null, |(at, cell)| {
+        Json::Object([moment(at), place(cell)].into_iter().flatten().collect())
+    });
+    fields.push(("lights", lights));
+    fields
+}
+
 pub fn cell(number: u16, mountings: &[Mounting]) -> String {
     let as_fitted = |&mounting: &Mounting| {
         Json::Object(vec![
             ("mounting", Json::from(mounting.number())),
-            ("lorry", place(UnitCell(number).to_lorry(mounting))),
+            (
+                "lorry",
+                Json::Object(place(UnitCell(number).to_lorry(mounting))),
+            ),
             ("unit", Json::from(LorryCell(number).to_unit(mounting).0)),
         ])
     };
-    let cell = LorryCell(number);
-    let answer = Json::Object(vec![
-        ("cell", Json::from(number)),
-        ("ring", Json::from(cell.ring())),
-        ("sector", Json::from(cell.sector())),
-        ("mountings", Json::list(mountings.iter().map(as_fitted))),
-    ]);
-    answer.line()
+    let mut fields = place(LorryCell(number));
+    fields.push(("mountings", Json::list(mountings.iter().map(as_fitted))));
+    Json::Object(fields).line()
 }
 
-fn place(cell: LorryCell) -> Json {
-    Json::Object(vec![
+fn numbers(cells: impl Iterator<Item = LorryCell>) -> Json {
+    Json::list(cells.map(|cell| Json::from(cell.0)))
+}
+
+fn place(cell: LorryCell) -> Fields {
+    vec![
         ("cell", Json::from(cell.0)),
         ("ring", Json::from(cell.ring())),
         ("sector", Json::from(cell.sector())),
-    ])
+    ]
 }
 
-fn moment(at: Moment) -> Vec<(&'static str, Json)> {
+fn moment(at: Moment) -> Fields {
     vec![
         ("tick", Json::from(at.tick)),
         ("slide", Json::from(at.slide)),

@@ -1,14 +1,16 @@
 //! `kerb`: asks a recording, that is a link file, what the panel's book thought and why, and turns text lists into link files and
 //! back. It parses its arguments and prints what the proved library gives; no rule is worked out here, but for the words that tell
-//! what is wrong with a line of a text (`text`).
+//! what is wrong with a line of a text (`text`), and which cells are in a dark lamp's zone (`lamps`).
 //!
 //! Answers go to standard output or to the file of `-o`, everything else to standard error. The status is 0 for done, 1 for an
 //! answer "no", 2 for a refusal and 3 for wrong use, or a file that cannot be read or written.
 
 mod answer;
 mod args;
+mod body;
 mod help;
 mod json;
+mod lamps;
 mod output;
 mod recording;
 mod standard;

@@ -2,7 +2,9 @@
 
 use crate::trouble::{About, Refused};
 use kerb::{Book, LorryCell, Record, Refusal, Settings, RECORD_BYTES};
+use std::cmp::Reverse;
 
+#[derive(Clone)]
 pub struct Recording {
     book: Book,
     pub settings: Settings,
@@ -35,6 +37,13 @@ pub struct Why {
     /// The last tick at which the two are still joined if nothing more is seen; none where ticks end before they part, and for a
     /// cell and itself, which never do.
     pub until: Option<u32>,
+}
+
+impl Why {
+    /// The two cells: the first of the chain, and the last.
+    pub fn ends(&self) -> (LorryCell, LorryCell) {
+        (self.chain[0], self.chain[self.chain.len() - 1])
+    }
 }
 
 /// A group of two cells or more.
@@ -96,9 +105,23 @@ impl Recording {
             return Ok(None);
         }
         let (answer, chain) = asked.map_err(Refused::of(About::CommandLine))?;
-        let part = one != other;
+        Ok(Some(self.told(answer, chain)))
+    }
+
+    /// Why a cell is joined with one of these; none where it is with none. The chain is chosen as that of two cells is (RULES 5): by
+    /// the newest L, then the fewest links, then the first cell numbers. So no other of them stays joined with the cell for longer.
+    pub fn why_any(&self, cell: LorryCell, these: impl Iterator<Item = LorryCell>) -> Option<Why> {
+        let asked = these.filter_map(|other| self.book.why(cell, other).ok());
+        let (answer, chain) = asked
+            .min_by_key(|(answer, chain)| (Reverse(answer.newest), chain.len(), chain.clone()))?;
+        Some(self.told(answer, chain))
+    }
+
+    /// What the library says of a chain, with when each of its links was seen.
+    fn told(&self, answer: kerb::Chain, chain: Vec<LorryCell>) -> Why {
         let neighbours = chain.windows(2);
-        Ok(Some(Why {
+        let parts = chain.len() > 1;
+        Why {
             links: neighbours
                 .map(|two| self.seen(two[0], two[1], answer.newest))
                 .collect(),
@@ -106,8 +129,23 @@ impl Recording {
             newest: answer.newest,
             newest_ticks: self.book.slide_ticks(answer.newest),
             hold: answer.hold,
-            until: part.then(|| self.last_tick_after(answer.hold)).flatten(),
-        }))
+            until: parts.then(|| self.last_tick_after(answer.hold)).flatten(),
+        }
+    }
+
+    /// Which lamps are lit with this bodywork, and by which cells.
+    pub fn lit(&self, body: &[u8]) -> Result<kerb::Lamps, Refused> {
+        let lamps = self.book.lamps(body);
+        lamps.map_err(Refused::of(About::CommandLine))
+    }
+
+    /// As it is after so many closings, 1 or more, if nothing more is seen; none where ticks end before.
+    pub fn after(&self, closings: u8) -> Option<Recording> {
+        let (first, _) = self.ticks_after(closings)?;
+        let mut later = self.clone();
+        let moved = later.book.clock(first);
+        moved.expect("a later slide has later ticks");
+        Some(later)
     }
 
     pub fn groups(&self) -> Result<Groups, Refused> {
@@ -150,8 +188,12 @@ impl Recording {
 
     /// The last tick of the slide that is open after so many closings.
     fn last_tick_after(&self, closings: u8) -> Option<u32> {
+        self.ticks_after(closings).map(|(_, last)| last)
+    }
+
+    fn ticks_after(&self, closings: u8) -> Option<(u32, u32)> {
         let slide = self.book.open_slide() + u64::from(closings);
-        self.book.slide_ticks(slide).map(|(_, last)| last)
+        self.book.slide_ticks(slide)
     }
 }
 

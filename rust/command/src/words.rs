@@ -1,5 +1,7 @@
 //! The answers in words.
 
+use crate::body;
+use crate::lamps::{Lamp, Side, Tied};
 use crate::recording::{Groups, Moment, Recording, Why};
 use kerb::{LorryCell, Mounting, Settings, UnitCell};
 use std::io::Write;
@@ -43,10 +45,13 @@ pub fn why(
     if one == other {
         return format!("Cell {} is joined with itself, always.\n", one.0);
     }
-    let mut text = format!(
-        "Cells {} and {} are joined {now}, by this chain:\n\n",
-        one.0, other.0
-    );
+    let (one, other, chain) = (one.0, other.0, chain(why));
+    format!("Cells {one} and {other} are joined {now}, by this chain:\n\n{chain}")
+}
+
+/// The chain of two different cells, and for how long it ties them.
+fn chain(why: &Why) -> String {
+    let mut text = String::new();
     for link in &why.links {
         text += &format!("  {}\n", place(link.one));
         text += &format!(
@@ -55,7 +60,7 @@ pub fn why(
             moment(link.last)
         );
     }
-    text += &format!("  {}\n\n", place(other));
+    text += &format!("  {}\n\n", place(why.ends().1));
     let ticks = why.newest_ticks.map_or(String::new(), |(first, last)| {
         format!(", ticks {first} to {last}")
     });
@@ -82,10 +87,60 @@ pub fn groups(recording: &Recording, groups: &Groups) -> String {
             group.hold,
             until(group.until)
         );
-        let cells: Vec<String> = group.cells.iter().map(|cell| cell.0.to_string()).collect();
-        text += &format!("  {}\n", cells.join(" "));
+        text += &format!("  {}\n", numbers(&group.cells));
     }
     text
+}
+
+pub fn lamps(recording: &Recording, body: &[u8], lamps: &[Lamp; 2]) -> String {
+    let now = moment(recording.now());
+    let bodywork = counted(body::cells(body).count(), "cell");
+    let mut text = format!("The lamps {now}, with {bodywork} of bodywork:\n");
+    for (side, lamp) in Side::BOTH.iter().zip(lamps) {
+        text += &format!("\nThe {} lamp is {}", side.name(), state(lamp));
+    }
+    text
+}
+
+/// Lit or dark, and why.
+fn state(lamp: &Lamp) -> String {
+    let (bodywork, tied) = match lamp {
+        Lamp::Lit(cell) => return format!("lit, by {}.\n", place(*cell)),
+        Lamp::Dark { bodywork, tied } => (bodywork, tied),
+    };
+    if bodywork.is_empty() && tied.is_none() {
+        return "dark: no cell of its zone is linked.\n".to_string();
+    }
+    let mut text = "dark: each linked cell of its zone is bodywork or tied to it.\n".to_string();
+    if !bodywork.is_empty() {
+        let (count, cells) = (counted(bodywork.len(), "cell"), numbers(bodywork));
+        text += &format!("  {count} of bodywork: {cells}\n");
+    }
+    text + &tied.as_ref().map_or(String::new(), keeps_dark)
+}
+
+/// What keeps a lamp dark, and until when.
+fn keeps_dark(tied: &Tied) -> String {
+    let (count, cells) = (counted(tied.cells.len(), "cell"), numbers(&tied.cells));
+    let (smallest, end) = tied.why.ends();
+    let then = match tied.lights {
+        Some((at, cell)) => format!("comes on {}, by {}", moment(at), place(cell)),
+        None => "stays dark".to_string(),
+    };
+    format!(
+        "  {count} tied to bodywork: {cells}\n\n\
+         Cell {}, the smallest of these, is tied to cell {}, which is bodywork, by this chain:\n\n\
+         {}\
+         If nothing more is seen, the lamp {then}.\n",
+        smallest.0,
+        end.0,
+        chain(&tied.why)
+    )
+}
+
+fn numbers(cells: &[LorryCell]) -> String {
+    let numbers: Vec<String> = cells.iter().map(|cell| cell.0.to_string()).collect();
+    numbers.join(" ")
 }
 
 pub fn cell(number: u16, mountings: &[Mounting]) -> String {

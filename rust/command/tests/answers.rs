@@ -231,7 +231,9 @@ fn help_and_version_are_answers() {
     let all = kerb(&["help"]);
     assert_eq!((all.status, all.err.as_str()), (0, ""));
     assert_eq!(kerb(&["--help"]).out, all.out);
-    for command in ["list", "why", "groups", "cell", "to-file", "to-text"] {
+    for command in [
+        "list", "why", "groups", "lamps", "cell", "to-file", "to-text",
+    ] {
         assert!(all.out.contains(&format!("  kerb {command} ")), "{command}");
         let help = kerb(&["help", command]);
         assert!(

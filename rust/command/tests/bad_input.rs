@@ -227,6 +227,7 @@ fn refused_files_are_status_2_with_the_number_in_words() {
         assert!(ran.err.starts_with(words), "{words}: {}", ran.err);
         complains(&kerb_fed(&["groups"], &file), 2, words);
         complains(&kerb_fed(&["why", "1", "2"], &file), 2, words);
+        complains(&kerb_fed(&["lamps", "--body", "none"], &file), 2, words);
         if line.ends_with("file") {
             complains(&kerb_fed(&["to-text"], &file), 2, words);
         }
@@ -270,6 +271,7 @@ fn what_cannot_be_written_is_status_3() {
         &["list", LIFT][..],
         &why,
         &["groups", LIFT],
+        &["lamps", LIFT, "--body", "94-96"],
         &["cell", "5"],
         &["to-text", LIFT],
         &["help"],

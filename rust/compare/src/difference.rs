@@ -77,9 +77,36 @@ fn parts(state: &State) -> Vec<(&'static str, Vec<u32>)> {
 /// So many bytes of a text are shown.
 const SHOWN: usize = 200;
 
-/// A call, without the bytes of its file; of a text the first ones.
+/// So many stretches of a mask are shown.
+const STRETCHES: usize = 40;
+
+/// The first bytes of a mask that are not 0, by stretches of the same value.
+fn shown_mask(mask: &[u8]) -> String {
+    let mut place = 0;
+    let mut shown = Vec::new();
+    for stretch in mask.chunk_by(|one, next| one == next) {
+        let last = place + stretch.len() - 1;
+        match stretch[0] {
+            0 => {}
+            value if place == last => shown.push(format!("{place}: {value}")),
+            value => shown.push(format!("{place} to {last}: {value}")),
+        }
+        place = last + 1;
+    }
+    shown.truncate(STRETCHES);
+    shown.join(", ")
+}
+
+/// A call, without the bytes of its file; of a text the first ones, of a mask those
+/// that are not 0.
 fn shown_call(call: &Call) -> String {
     match call {
+        Call::Lamps { log_places, mask } => format!(
+            "Lamps, log of {} places, mask of {} bytes, not 0 at {}",
+            log_places,
+            mask.len(),
+            shown_mask(mask)
+        ),
         Call::Read { file } => format!("Read a file of {} bytes", file.len()),
         Call::Write {
             settings,

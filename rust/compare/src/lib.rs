@@ -8,8 +8,9 @@
 //! - [`altered`] does it for books that calls did not leave, with docs/BOOK.md
 //!   in the oracle's place;
 //! - [`seen`] says which classes a call falls in, by the oracle's data alone, the
-//!   crossings that were needed and the ties among them, [`texts`] those of the
-//!   calls with texts; [`Tally`] counts them and knows which stayed empty;
+//!   crossings that were needed, the ties and what lit the lamps among them,
+//!   [`texts`] those of the calls with texts; [`Tally`] counts them and knows which
+//!   stayed empty;
 //! - [`run`] has what the runs share: the seed, the cores, the verdict.
 
 #![forbid(unsafe_code)]
@@ -18,6 +19,7 @@ pub mod altered;
 mod crossings;
 mod difference;
 pub mod fields;
+mod lamps;
 pub mod library;
 mod lockstep;
 pub mod run;

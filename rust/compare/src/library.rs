@@ -37,6 +37,7 @@ pub fn ask(state: &mut State, call: &Call) -> Answer {
             log_places,
             chain_places,
         } => ask_chain(state, *first, *second, *log_places, *chain_places),
+        Call::Lamps { log_places, mask } => ask_lamps(state, *log_places, mask),
         Call::Read { file } => ask_read(file),
         Call::Write {
             settings,
@@ -94,6 +95,17 @@ fn ask_chain(
         hold: u32::from(answer.hold),
         cells: u32::from(answer.cells),
         lent,
+    }
+}
+
+fn ask_lamps(state: &State, log_places: usize, mask: &[u8]) -> Answer {
+    let answer = calls::lamps(&state.book, &state.log[..log_places], mask);
+    Answer::Lamps {
+        number: u32::from(answer.number),
+        left: answer.left,
+        right: answer.right,
+        left_cell: u32::from(answer.left_cell),
+        right_cell: u32::from(answer.right_cell),
     }
 }
 

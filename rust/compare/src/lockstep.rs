@@ -109,6 +109,7 @@ fn write(log: &mut [u16], history: &History, call: &Call) {
 mod tests {
     use super::*;
     use oracle::Settings;
+    use streams::masks::mask_of;
 
     const JOINED: Call = Call::Joined {
         first: 1,
@@ -151,6 +152,24 @@ mod tests {
             "Joined { first: 1, second: 2 }
   has to give Joined { number: 0, joined: false, steps: 0 }
   and gave    Joined { number: 0, joined: true, steps: 1 }"
+        );
+    }
+
+    /// The link 1-2 becomes 3-2 in the library's log, and 2 is the smallest cell then.
+    #[test]
+    fn another_lamp_is_noticed() {
+        let mut books = opened();
+        books.put(&LINK).unwrap();
+        books.library.log[0] = 3;
+        let lamps = Call::Lamps {
+            log_places: LOG_PLACES,
+            mask: mask_of(&[7, 40, 41, 42, 1023]),
+        };
+        assert_eq!(
+            difference(&mut books, &lamps),
+            "Lamps, log of 16384 places, mask of 1024 bytes, not 0 at 7: 1, 40 to 42: 1, 1023: 1
+  has to give Lamps { number: 0, left: false, right: true, left_cell: 0, right_cell: 1 }
+  and gave    Lamps { number: 0, left: false, right: true, left_cell: 0, right_cell: 2 }"
         );
     }
 

@@ -2,6 +2,7 @@
 //! history and answer; the library has no say in it.
 
 use crate::crossings::crossings;
+use crate::lamps;
 use crate::tally::{names, number, span, Spans, Tally, NUMBERS};
 use crate::ties::has_ties;
 use oracle::{History, Link, Refusal, Settings, MIRRORED, RINGS, SECTORS};
@@ -62,7 +63,7 @@ pub fn tally() -> Tally {
     let steps_of_one = names(STEPS_OF_ONE);
     let crossings = names(CROSSINGS);
     let links_of_chain = names(LINKS_OF_CHAIN);
-    Tally::of(&[
+    let mut rows: Vec<(&str, &[&str])> = vec![
         ("stream, calls", &STREAMS),
         ("opening, number", &["0", "2", "6"]),
         ("link, number", &["0", "1", "3", "4", "5", "6", "14"]),
@@ -103,11 +104,13 @@ pub fn tally() -> Tally {
         ("links of a chain", &links_of_chain),
         ("shortest chains", &["one", "ties"]),
         ("L", &["up to 32 bits", "2^32"]),
-    ])
+    ];
+    rows.extend(lamps::ROWS);
+    Tally::of(&rows)
 }
 
 /// The streams there are.
-pub const STREAMS: [&str; 13] = [
+pub const STREAMS: [&str; 14] = [
     "few cells",
     "all cells",
     "touching cells",
@@ -120,6 +123,7 @@ pub const STREAMS: [&str; 13] = [
     "far links",
     "self links",
     "huge jumps",
+    "zones",
     "files",
 ];
 
@@ -206,6 +210,7 @@ pub fn count(
 ) {
     tally.count(number_row(call), number(answer.number()));
     count_apart(tally, call, answer);
+    lamps::count_refused(tally, call, answer);
     let history = match history {
         Some(history) if answer.number() == 0 => history,
         _ => return,
@@ -239,6 +244,7 @@ pub fn count(
                 count_chain(tally, history, *l, &lent[..*cells as usize]);
             }
         }
+        (Call::Lamps { mask, .. }, _) => lamps::count_done(tally, history, mask, answer),
         _ => {}
     }
 }
@@ -260,6 +266,7 @@ pub(crate) fn number_row(call: &Call) -> &'static str {
         Call::Clock { .. } => "clock, number",
         Call::Joined { .. } => "joined, number",
         Call::Chain { .. } => "chain, number",
+        Call::Lamps { .. } => "lamps, number",
         Call::Read { .. } => "reader, number",
         Call::Write { .. } => "writer, number",
         Call::List { .. } => "listing, number",

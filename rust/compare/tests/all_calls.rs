@@ -13,8 +13,8 @@ use streams::files::{edge_files, every_field, file_of, valid_file, Files};
 use streams::{built, draw_settings, lent_bytes, lent_places, Call, Dice, Kind, Random};
 
 const ALL: usize = CELLS as usize;
-/// Numbers that a call can give: 0 to 14.
-const NUMBERS: usize = Refusal::Apart as usize + 1;
+/// Numbers that a call can give: 0 to 15.
+const NUMBERS: usize = Refusal::Mask as usize + 1;
 
 // Cells.
 

@@ -7,7 +7,7 @@
 mod common;
 use common::*;
 use compare::Lockstep;
-use oracle::{CHAIN_PLACES, LOG_PLACES};
+use oracle::{CHAIN_PLACES, LOG_PLACES, MASK_BYTES};
 use streams::files::file_of;
 use streams::{Answer, Call, LISTING_BYTES};
 
@@ -128,6 +128,52 @@ fn logs_and_chain_buffers_of_every_kind_of_length() {
             chain_places: places,
         };
         assert_eq!(number(&mut book(false), call), expected);
+    }
+}
+
+/// Number 15 by the mask's length and by a value in it.
+#[test]
+fn lamps_1_6_15() {
+    for faults in all_sets() {
+        let [never_opened, short_log, short_mask, value] = faults;
+        let mut mask = vec![0; MASK_BYTES - usize::from(short_mask)];
+        mask[1_000] = if value { 2 } else { 1 };
+        let call = Call::Lamps {
+            log_places: log_places(short_log),
+            mask,
+        };
+        let given = number(&mut book(never_opened), call);
+        assert_eq!(given, first([1, 6, 15, 15], faults));
+    }
+}
+
+#[test]
+fn masks_of_every_kind_of_length() {
+    let mut books = book(false);
+    for (bytes, expected) in [(0, 15), (1, 15), (1_023, 15), (1_024, 0), (1_025, 0)] {
+        for value in [0, 1] {
+            let number = lamps(&mut books, vec![value; bytes]).0;
+            assert_eq!(number, expected, "{bytes} bytes {value}");
+        }
+    }
+}
+
+/// At every place that counts, and at some that do not.
+#[test]
+fn masks_with_every_value() {
+    let mut books = book(false);
+    for place in (0..MASK_BYTES).chain([1_024, 1_025, 2_047]) {
+        let values: Vec<u8> = match place {
+            0 | 1_023 | 1_024 => (0..=255).collect(),
+            _ => vec![0, 1, 2, 255],
+        };
+        for value in values {
+            let mut mask = vec![0; 2 * MASK_BYTES];
+            mask[place] = value;
+            let bad = value > 1 && place < MASK_BYTES;
+            let number = lamps(&mut books, mask).0;
+            assert_eq!(number, if bad { 15 } else { 0 }, "{value} at {place}");
+        }
     }
 }
 

@@ -1,7 +1,8 @@
 //! The book that owns its log.
 
 use crate::calls::RawBook;
-use crate::{Chain, Joined, LorryCell, Refusal, Settings, UnitCell, CHAIN_PLACES, LOG_PLACES};
+use crate::{Chain, Joined, Lamps, LorryCell, Refusal, Settings, UnitCell};
+use crate::{CHAIN_PLACES, LOG_PLACES};
 use alloc::boxed::Box;
 use alloc::vec;
 use alloc::vec::Vec;
@@ -114,6 +115,32 @@ impl Book {
         let chain = self.chain(one, other, &mut buffer)?;
         let cells = buffer[..usize::from(chain.cells)].iter();
         Ok((chain, cells.map(|&cell| LorryCell(cell)).collect()))
+    }
+
+    /// The two lamps by a body mask, a byte for each cell in the lorry's numbers: 1 for the lorry's own bodywork, 0 for any other.
+    ///
+    /// ```
+    /// # use kerb::{Book, Mounting, Settings, UnitCell, CELLS};
+    /// use kerb::{LorryCell, Refusal};
+    ///
+    /// # let settings = Settings { t0: 0, b: 10, n: 3, mounting: Mounting::Plain };
+    /// let mut book = Book::open(settings)?;
+    /// // a walker beside the tail lift, which is cell 96, dead astern, and one link that ties the two
+    /// book.link(0, UnitCell(95), UnitCell(96))?;
+    /// book.link(0, UnitCell(94), UnitCell(95))?;
+    /// let mut lift = [0; CELLS];
+    /// lift[96] = 1;
+    /// assert_eq!(book.lamps(&lift)?.right, None);
+    ///
+    /// // seen again without the lift, once the old link has left the window
+    /// book.link(30, UnitCell(94), UnitCell(95))?;
+    /// assert_eq!(book.lamps(&lift)?.right, Some(LorryCell(94)));
+    ///
+    /// assert_eq!(book.lamps(&lift[1..]), Err(Refusal::Mask));
+    /// # Ok::<(), Refusal>(())
+    /// ```
+    pub fn lamps(&self, mask: &[u8]) -> Result<Lamps, Refusal> {
+        self.raw.lamps(&self.log, mask)
     }
 
     /// The book's fields, to be stored or compared.

@@ -115,6 +115,16 @@ pub struct GroupsAnswer {
 
 #[derive(Clone, Copy, Debug, PartialEq, Eq)]
 #[repr(C)]
+pub struct LampsAnswer {
+    pub left_cell: u16,
+    pub right_cell: u16,
+    pub left: bool,
+    pub right: bool,
+    pub number: u8,
+}
+
+#[derive(Clone, Copy, Debug, PartialEq, Eq)]
+#[repr(C)]
 pub struct RecordAnswer {
     pub tick: u32,
     pub one: u16,
@@ -166,6 +176,7 @@ mod layout {
     laid_out!(TextOutAnswer, 16, length at 0, number at 8);
     laid_out!(PlayAnswer, 8, taken at 0, number at 4);
     laid_out!(GroupsAnswer, 8, links at 0, number at 4);
+    laid_out!(LampsAnswer, 8, left_cell at 0, right_cell at 2, left at 4, right at 5, number at 6);
     laid_out!(RecordAnswer, 12, tick at 0, one at 4, other at 6, number at 8);
     laid_out!(SlideAnswer, 12, first at 0, last at 4, exists at 8);
 }
@@ -246,6 +257,13 @@ mod library {
             hold: *mut u8,
             hold_places: usize,
         ) -> GroupsAnswer;
+        pub fn kerb_lamps(
+            book: *const RawBook,
+            log: *const u16,
+            log_places: usize,
+            mask: *const u8,
+            mask_bytes: usize,
+        ) -> LampsAnswer;
         pub fn kerb_play(
             book: *mut RawBook,
             log: *mut u16,
@@ -365,6 +383,11 @@ mod all {
                 hold.len(),
             )
         }
+    }
+
+    pub fn lamps(book: &RawBook, log: &[u16], mask: &[u8]) -> LampsAnswer {
+        let (bytes, len) = (mask.as_ptr(), mask.len());
+        unsafe { library::kerb_lamps(book, log.as_ptr(), log.len(), bytes, len) }
     }
 
     pub fn play(book: &mut RawBook, log: &mut [u16], file: &[u8]) -> PlayAnswer {

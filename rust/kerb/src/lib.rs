@@ -9,12 +9,17 @@
 //! has each call's), and to keep a `RawBook` and its log together.
 //!
 //! ```
-//! use kerb::{Book, LorryCell, Mounting, Settings, UnitCell};
+//! use kerb::{Book, LorryCell, Mounting, Settings, UnitCell, CELLS};
 //!
 //! let mut book = Book::open(Settings { t0: 0, b: 100, n: 8, mounting: Mounting::Mirrored })?;
 //! book.link(40, UnitCell(0), UnitCell(1))?;
 //! // mirrored: the lorry has 0 and 63 for the unit's 0 and 1
 //! assert!(book.joined(LorryCell(0), LorryCell(63))?.yes);
+//!
+//! // 63 is in the left zone, and nothing of the lorry's own bodywork is joined to it
+//! let body = [0; CELLS];
+//! let lamps = book.lamps(&body)?;
+//! assert_eq!((lamps.left, lamps.right), (Some(LorryCell(63)), None));
 //! # Ok::<(), kerb::Refusal>(())
 //! ```
 
@@ -89,6 +94,16 @@ pub struct Joined {
     pub yes: bool,
     /// The sum of the four walks, at most 40.
     pub steps: u8,
+}
+
+/// The two lamps: of each, where it is lit, the smallest cell that lights it.
+///
+/// A lamp is lit exactly when its zone has a cell that is an end of a link of the window and is joined to no body cell. The left zone is
+/// sectors 33 to 63, the right zone sectors 1 to 31, both in rings 0 to 5.
+#[derive(Clone, Copy, Debug, PartialEq, Eq)]
+pub struct Lamps {
+    pub left: Option<LorryCell>,
+    pub right: Option<LorryCell>,
 }
 
 /// What the chain call gives beside the chain.

@@ -1,7 +1,7 @@
 //! The book that is lent its log at every call.
 
 use crate::calls::{self, RawBook};
-use crate::{Chain, Joined, LorryCell, Refusal, Settings, UnitCell};
+use crate::{Chain, Joined, Lamps, LorryCell, Refusal, Settings, UnitCell};
 
 /// ```
 /// use kerb::{LorryCell, Mounting, RawBook, Refusal, Settings, UnitCell, CHAIN_PLACES, LOG_PLACES};
@@ -98,6 +98,17 @@ impl RawBook {
         let answer = calls::groups(self, log, first, size, hold);
         Refusal::unless_done(answer.number)?;
         Ok(answer.links)
+    }
+
+    /// The two lamps by a body mask, a byte for each cell in the lorry's numbers: 1 for the lorry's own bodywork, 0 for any other.
+    /// Bytes from `CELLS` on are not looked at.
+    pub fn lamps(&self, log: &[u16], mask: &[u8]) -> Result<Lamps, Refusal> {
+        let answer = calls::lamps(self, log, mask);
+        Refusal::unless_done(answer.number)?;
+        Ok(Lamps {
+            left: answer.left.then_some(LorryCell(answer.left_cell)),
+            right: answer.right.then_some(LorryCell(answer.right_cell)),
+        })
     }
 
     /// The records of a link file, one after the other, each by the link call; gives how many.

@@ -25,6 +25,7 @@ pub enum Refusal {
     Pad = 12,
     Line = 13,
     Apart = 14,
+    Mask = 15,
 }
 
 impl Refusal {
@@ -50,6 +51,9 @@ impl Refusal {
             Refusal::Pad => "a pad byte of the file is not zero",
             Refusal::Line => "a line of the text breaks the form",
             Refusal::Apart => "the link's two cells do not touch",
+            Refusal::Mask => {
+                "the body mask is under 1,024 bytes, or has a byte that is neither 0 nor 1 among the first 1,024"
+            }
         }
     }
 
@@ -70,6 +74,7 @@ impl Refusal {
             12 => Refusal::Pad,
             13 => Refusal::Line,
             14 => Refusal::Apart,
+            15 => Refusal::Mask,
             _ => unreachable!("the library gives no number {number}"),
         };
         Err(refusal)
@@ -91,7 +96,7 @@ mod tests {
     #[test]
     fn a_number_gives_the_refusal_of_that_number() {
         assert_eq!(Refusal::unless_done(0), Ok(()));
-        for number in 1..=14 {
+        for number in 1..=15 {
             let refusal = Refusal::unless_done(number).unwrap_err();
             assert_eq!(refusal.number(), number);
         }

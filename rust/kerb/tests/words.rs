@@ -21,6 +21,7 @@ fn refusals_say_what_the_header_says() {
         Refusal::Pad,
         Refusal::Line,
         Refusal::Apart,
+        Refusal::Mask,
     ] {
         let line = format!("{refusal}");
         assert!(printed.lines().any(|of| of == line), "{line}");

@@ -1,10 +1,11 @@
 //! An independent reading of the document "The intended build and its rules".
 //!
 //! This program was written from that page alone, and the text lists, the mirror
-//! rule and which cells touch from the requests for them. It keeps the plain list of all
-//! accepted links and searches the window's links afresh for every question. The
-//! two forests are built for the step counts only, link by link as the rules say,
-//! and thrown away again. Nothing is remembered from one question to the next.
+//! rule, which cells touch and the lamps from the requests for them. It keeps the
+//! plain list of all accepted links and searches the window's links afresh for every
+//! question. The two forests are built for the step counts only, link by link as the
+//! rules say, and thrown away again. Nothing is remembered from one question to the
+//! next.
 //!
 //! Every call gives `Ok` with its result fields, or `Err` with the refusal.
 //! "With a refusal the other result fields are 0" is then
@@ -22,6 +23,7 @@ mod chain;
 mod file;
 mod forest;
 mod joined;
+mod lamps;
 mod listing;
 mod refusal;
 mod search;
@@ -39,6 +41,7 @@ pub use file::{
 };
 pub use forest::{Forest, Walk};
 pub use joined::Joined;
+pub use lamps::{ends_of, zone_of, Lamps, Side, MASK_BYTES};
 pub use listing::listing;
 pub use refusal::{number, Refusal};
 pub use search::{CellSet, Linked};

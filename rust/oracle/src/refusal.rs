@@ -31,6 +31,9 @@ pub enum Refusal {
     Line = 13,
     /// Two cells that don't touch.
     Apart = 14,
+    /// The body mask is under 1,024 bytes, or has another value than 0 or 1 among
+    /// the first 1,024.
+    Mask = 15,
 }
 
 impl Refusal {

@@ -41,6 +41,11 @@ impl CellSet {
         rest
     }
 
+    /// Whether no cell of this set is in the other.
+    pub fn meets_none_of(&self, other: &CellSet) -> bool {
+        self.without(other) == *self
+    }
+
     /// The cells of the set, smallest first.
     pub fn cells(self) -> impl Iterator<Item = u32> {
         let words = self.0;
@@ -151,6 +156,19 @@ mod tests {
         assert_eq!(set.cells().collect::<Vec<_>>(), [0, 63, 64, 1023]);
         assert_eq!(set.count(), 4);
         assert!(set.contains(63) && !set.contains(62));
+    }
+
+    #[test]
+    fn sets_meet_where_they_share_a_cell() {
+        let set_of = |cells: &[u32]| {
+            let mut set = CellSet::EMPTY;
+            cells.iter().for_each(|&cell| set.insert(cell));
+            set
+        };
+        let set = set_of(&[0, 63, 1023]);
+        assert!(!set.meets_none_of(&set_of(&[5, 1023])));
+        assert!(set.meets_none_of(&set_of(&[1, 64, 1022])));
+        assert!(set.meets_none_of(&CellSet::EMPTY));
     }
 
     #[test]

@@ -152,6 +152,31 @@ fn chain_1_6_3_7() {
     }
 }
 
+/// Number 15 by a mask that is too short and by a value.
+#[test]
+fn lamps_1_6_15() {
+    let order = [1, 6, 15];
+    for mask in 0..8 {
+        let book = book_for(&order, mask);
+        let log = LOG_PLACES - usize::from(has(&order, mask, 6));
+        let bad = has(&order, mask, 15);
+        let short = vec![0; MASK_BYTES - usize::from(bad)];
+        let mut with_a_value = vec![0; MASK_BYTES];
+        with_a_value[1_023] = if bad { 2 } else { 1 };
+        for body in [short, with_a_value] {
+            let answer = book.lamps(log, &body);
+            assert_eq!(number(&answer), first_fault(&order, mask));
+            if answer.is_err() {
+                let none = Lamps {
+                    left: None,
+                    right: None,
+                };
+                assert_eq!(answer.unwrap_or_default(), none);
+            }
+        }
+    }
+}
+
 #[test]
 fn reader_9_10_11_12_2() {
     let order = [9, 10, 11, 12, 2];
@@ -220,6 +245,8 @@ fn log_places() {
         assert_eq!(number(&book.link(55, 1, 2, places)), expected);
         let mut lent = vec![0; CHAIN_PLACES];
         assert_eq!(number(&book.chain(2, 2, places, &mut lent)), expected);
+        let mask = vec![0; MASK_BYTES];
+        assert_eq!(number(&book.lamps(places, &mask)), expected);
     }
 }
 
@@ -250,6 +277,9 @@ fn the_table() {
         (Letters, 10),
         (Trailer, 11),
         (Pad, 12),
+        (Line, 13),
+        (Apart, 14),
+        (Mask, 15),
     ] {
         assert_eq!(refusal.number(), number);
     }

@@ -10,15 +10,17 @@
 //! - [`full_log`]: every slide of two chunks full;
 //! - [`last_ticks`]: the last slides of all, up to slide 4,294,967,295;
 //! - [`far_links`], [`self_links`], [`huge_jumps`]: what no other stream has;
+//! - [`zones`]: the ends of the lamps' zones;
 //! - [`all`]: all of these for all n and both mountings.
 
-use crate::call::Call;
+use crate::call::{ask, Call};
 use crate::dice::Dice;
 use crate::hops::{within_a_hop, LONGEST_HOP};
+use crate::masks::{draw_good_mask, mask_of, window_of};
 use crate::touching::{far, patch, path, touching_cell, touching_cell_of};
 use oracle::{
-    in_lorrys_numbers, touching_cells, CellSet, Settings, CELLS, CHAIN_PLACES, LINKS_PER_SLIDE,
-    LOG_PLACES, RINGS, SECTORS,
+    in_lorrys_numbers, touching_cells, Book, CellSet, Settings, CELLS, CHAIN_PLACES,
+    LINKS_PER_SLIDE, LOG_PLACES, RINGS, SECTORS,
 };
 
 /// A link in the lorry's numbers.
@@ -28,20 +30,34 @@ type Pair = (u32, u32);
 struct Script {
     settings: Settings,
     dice: Dice,
+    /// For the masks alone, so that the other calls are what they would be without.
+    mask_dice: Dice,
+    /// Follows the calls, so that masks are drawn for what the window then is.
+    book: Book,
     calls: Vec<Call>,
 }
 
 impl Script {
     fn opened(settings: Settings, seed: u64) -> Script {
-        let opening = Call::Opening {
-            settings,
-            log_places: LOG_PLACES,
-        };
-        Script {
+        let mut script = Script {
             settings,
             dice: Dice::new(seed),
-            calls: vec![opening],
+            mask_dice: Dice::new(!seed),
+            book: Book::new(),
+            calls: Vec::new(),
+        };
+        script.push(Call::Opening {
+            settings,
+            log_places: LOG_PLACES,
+        });
+        script
+    }
+
+    fn push(&mut self, call: Call) {
+        if !call.is_question() {
+            ask(&mut self.book, &call);
         }
+        self.calls.push(call);
     }
 
     fn n(&self) -> u64 {
@@ -59,7 +75,7 @@ impl Script {
     }
 
     fn clock_at(&mut self, tick: u32) {
-        self.calls.push(Call::Clock {
+        self.push(Call::Clock {
             tick,
             log_places: LOG_PLACES,
         });
@@ -71,7 +87,7 @@ impl Script {
 
     fn link_at(&mut self, tick: u32, pair: Pair) {
         let mounting = self.settings.mounting;
-        self.calls.push(Call::Link {
+        self.push(Call::Link {
             tick,
             a: in_lorrys_numbers(pair.0, mounting),
             b: in_lorrys_numbers(pair.1, mounting),
@@ -97,16 +113,29 @@ impl Script {
     }
 
     fn joined(&mut self, first: u32, second: u32) {
-        self.calls.push(Call::Joined { first, second });
+        self.push(Call::Joined { first, second });
     }
 
     fn chain(&mut self, first: u32, second: u32) {
-        self.calls.push(Call::Chain {
+        self.push(Call::Chain {
             first,
             second,
             log_places: LOG_PLACES,
             chain_places: CHAIN_PLACES,
         });
+    }
+
+    fn lamps(&mut self, mask: Vec<u8>) {
+        self.push(Call::Lamps {
+            log_places: LOG_PLACES,
+            mask,
+        });
+    }
+
+    /// The lamps by a mask for the window.
+    fn lamps_by_a_mask(&mut self) {
+        let mask = draw_good_mask(&mut self.mask_dice, window_of(&self.book));
+        self.lamps(mask);
     }
 
     /// Both questions, both ways round.
@@ -117,10 +146,11 @@ impl Script {
         self.chain(second, first);
     }
 
-    /// Questions about a cell and some others.
+    /// Questions about a cell and some others, and about the lamps.
     fn some_questions(&mut self, cell: u32, cells: &[u32], times: u64) {
         self.joined(cell, cell);
         self.chain(cell, cell);
+        self.lamps_by_a_mask();
         for _ in 0..times {
             let other = self.dice.pick(cells);
             let another = self.dice.pick(cells);
@@ -487,6 +517,40 @@ fn jump_from_t0(settings: Settings, jump: u32, seed: u64) -> Vec<Call> {
     script.calls
 }
 
+/// The ends of the zones: sectors and rings next to where a zone begins or ends, each
+/// cell in a history of its own.
+pub fn zones(settings: Settings, slide: u64, seed: u64) -> Vec<Call> {
+    let mut dice = Dice::new(seed);
+    let mut calls = Vec::new();
+    for ring in [0, 4, 5, 6] {
+        for sector in [0, 1, 31, 32, 33, 63] {
+            let cell = SECTORS * ring + sector;
+            calls.extend(end_of_a_zone(settings, slide, cell, dice.bits()));
+        }
+    }
+    calls
+}
+
+/// One link of a cell with one that touches it, and the lamps by every body that makes
+/// a difference: none, either cell, all others, and again until the link is gone.
+fn end_of_a_zone(settings: Settings, slide: u64, cell: u32, seed: u64) -> Vec<Call> {
+    let mut script = Script::opened(settings, seed);
+    let other = touching_cell(&mut script.dice, cell);
+    let pair = script.dice.pick(&[(cell, other), (other, cell)]);
+    script.link(slide, pair);
+    script.both_questions(cell, other);
+    let others = (0..CELLS).filter(|of| ![cell, other].contains(of));
+    for body in [vec![], vec![cell], vec![other], others.collect()] {
+        script.lamps(mask_of(&body));
+    }
+    for later in [script.n() - 1, script.n()] {
+        script.clock(slide + later);
+        script.lamps(mask_of(&[]));
+        script.lamps(mask_of(&[cell]));
+    }
+    script.calls
+}
+
 /// 10 cells that hang together.
 fn draw_patch(dice: &mut Dice) -> Vec<u32> {
     let first = dice.cell();
@@ -580,6 +644,13 @@ pub fn all(seed: u64) -> Vec<(String, Vec<Call>)> {
             });
             add(n, mounting, "huge jumps", &|at| {
                 huge_jumps(n, mounting, at.seed)
+            });
+        }
+    }
+    for n in 1..=16 {
+        for mounting in 1..=2 {
+            add(n, mounting, "zones", &|at| {
+                zones(at.settings, at.any_slide(), at.seed)
             });
         }
     }

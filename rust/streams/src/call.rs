@@ -1,6 +1,6 @@
 //! A call, and what it gives.
 
-use oracle::{number, Book, Refusal, Settings, LOG_PLACES};
+use oracle::{number, Book, Lamps, Refusal, Settings, LOG_PLACES};
 
 /// The longest log that a call of these streams lends. Who compares keeps one
 /// log of this length and lends its first `log_places` places; the document
@@ -40,6 +40,11 @@ pub enum Call {
         log_places: usize,
         chain_places: usize,
     },
+    /// The lamps. The mask is in the lorry's numbers.
+    Lamps {
+        log_places: usize,
+        mask: Vec<u8>,
+    },
     /// The reader of link files.
     Read {
         file: Vec<u8>,
@@ -71,7 +76,10 @@ pub enum Call {
 impl Call {
     /// Whether it asks a book and leaves it as it was.
     pub fn is_question(&self) -> bool {
-        matches!(self, Call::Joined { .. } | Call::Chain { .. })
+        matches!(
+            self,
+            Call::Joined { .. } | Call::Chain { .. } | Call::Lamps { .. }
+        )
     }
 }
 
@@ -94,6 +102,14 @@ pub enum Answer {
         hold: u32,
         cells: u32,
         lent: Vec<u16>,
+    },
+    /// A dark lamp's cell is 0.
+    Lamps {
+        number: u32,
+        left: bool,
+        right: bool,
+        left_cell: u32,
+        right_cell: u32,
     },
     Read {
         number: u32,
@@ -142,6 +158,7 @@ impl Answer {
             Answer::Number { number }
             | Answer::Joined { number, .. }
             | Answer::Chain { number, .. }
+            | Answer::Lamps { number, .. }
             | Answer::Read { number, .. }
             | Answer::Write { number, .. }
             | Answer::TextIn { number, .. }
@@ -193,6 +210,7 @@ pub fn ask(book: &mut Book, call: &Call) -> Answer {
             log_places,
             chain_places,
         } => ask_chain(book, *first, *second, *log_places, *chain_places),
+        Call::Lamps { log_places, mask } => lamps_answer(book.lamps(*log_places, mask)),
         Call::Read { file } => ask_read(file),
         Call::Write {
             settings,
@@ -235,6 +253,18 @@ fn ask_chain(
         hold: fields.hold,
         cells: fields.cells,
         lent,
+    }
+}
+
+/// What a lamps call gives, field by field.
+pub fn lamps_answer(answer: Result<Lamps, Refusal>) -> Answer {
+    let Lamps { left, right } = answer.unwrap_or_default();
+    Answer::Lamps {
+        number: number(&answer),
+        left: left.is_some(),
+        right: right.is_some(),
+        left_cell: left.unwrap_or(0),
+        right_cell: right.unwrap_or(0),
     }
 }
 

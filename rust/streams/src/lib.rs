@@ -1,5 +1,6 @@
 //! Streams of calls for comparing two builds of the document "The intended
-//! build and its rules": random ones, built ones, link files and texts.
+//! build and its rules": random ones, built ones, link files and texts; and the
+//! body masks of the lamps.
 //!
 //! Everything is drawn from a seed, so the same seed gives the same calls
 //! everywhere. A stream is an iterator or a `Vec` of [`Call`]; [`ask`] puts a
@@ -18,11 +19,14 @@ mod call;
 mod dice;
 pub mod files;
 pub mod hops;
+pub mod masks;
 mod random;
 mod scene;
 pub mod texts;
 pub mod touching;
 
-pub use call::{ask, lent_bytes, lent_places, Answer, Call, LISTING_BYTES, MOST_LOG_PLACES};
+pub use call::{
+    ask, lamps_answer, lent_bytes, lent_places, Answer, Call, LISTING_BYTES, MOST_LOG_PLACES,
+};
 pub use dice::Dice;
 pub use random::{draw_settings, Kind, Random};

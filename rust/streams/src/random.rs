@@ -1,9 +1,12 @@
 //! Random streams: history after history, each with its own settings, cells
-//! and habits, with refused calls in between.
+//! and habits, with refused calls in between. Lamps are asked for between any two
+//! calls and drawn by dice of their own, so that the other calls are what they would
+//! be without them.
 
 use crate::call::{ask, Call, MOST_LOG_PLACES};
 use crate::dice::Dice;
 use crate::hops::{huge_jump, within_a_hop};
+use crate::masks::{draw_mask, window_of};
 use crate::scene::Scene;
 use oracle::{in_lorrys_numbers, Book, Refusal, Settings, CHAIN_PLACES, LOG_PLACES};
 
@@ -48,10 +51,15 @@ struct Habits {
     calls: u64,
 }
 
+/// One call in so many asks for the lamps.
+const LAMPS: u64 = 16;
+
 /// An endless random stream.
 #[derive(Clone, Debug)]
 pub struct Random {
     dice: Dice,
+    /// For the lamps alone.
+    lamps: Dice,
     kind: Kind,
     /// Follows the stream, so that times, full slides and jumps are aimed at
     /// what the book then is.
@@ -79,6 +87,7 @@ impl Random {
         Random {
             left: dice.below(20),
             dice,
+            lamps: Dice::new(!seed),
             kind,
             book: Book::new(),
             habits,
@@ -197,6 +206,18 @@ impl Random {
                 log_places: self.log_places(),
                 chain_places: self.chain_places(),
             }
+        }
+    }
+
+    fn lamps_call(&mut self) -> Call {
+        let dice = &mut self.lamps;
+        Call::Lamps {
+            log_places: if dice.one_in(20) {
+                short_log(dice)
+            } else {
+                long_log(dice)
+            },
+            mask: draw_mask(dice, window_of(&self.book)),
         }
     }
 
@@ -396,6 +417,9 @@ impl Iterator for Random {
     type Item = Call;
 
     fn next(&mut self) -> Option<Call> {
+        if self.lamps.one_in(LAMPS) {
+            return Some(self.lamps_call());
+        }
         let call = if self.left == 0 {
             self.begin_history()
         } else {

@@ -26,6 +26,10 @@ struct Reached {
     ahead: u32,
     yes: u32,
     no: u32,
+    /// Lamps that were lit, on the left and on the right, and that were dark.
+    left: u32,
+    right: u32,
+    dark: u32,
     full_slides: u32,
     apart: u32,
 }
@@ -56,6 +60,20 @@ fn run(calls: &[Call]) -> Reached {
             }
             (Call::Chain { .. }, Answer::Chain { cells, .. }) => {
                 reached.cells = reached.cells.max(cells);
+            }
+            (
+                Call::Lamps { .. },
+                Answer::Lamps {
+                    number,
+                    left,
+                    right,
+                    ..
+                },
+            ) => {
+                assert_eq!(number, 0);
+                reached.left += u32::from(left);
+                reached.right += u32::from(right);
+                reached.dark += u32::from(!left) + u32::from(!right);
             }
             (_, answer) => {
                 assert!([0, 5, 14].contains(&answer.number()), "{:?}", call);
@@ -217,6 +235,20 @@ fn the_last_slides_of_all() {
     }
 }
 
+/// More often dark than lit: by the cell's place, by the body, and once the link is gone.
+#[test]
+fn zones_are_lit_and_dark() {
+    for n in [1, 3, 16] {
+        for mounting in 1..=2 {
+            let calls = built::zones(settings(n, mounting), 5 * u64::from(n), 9);
+            let reached = run(&calls);
+            assert!(reached.left > 20, "{:?}", reached);
+            assert!(reached.right > 20, "{:?}", reached);
+            assert!(reached.dark > 200, "{:?}", reached);
+        }
+    }
+}
+
 #[test]
 fn all_built_streams_run() {
     let streams = built::all(1);
@@ -230,6 +262,7 @@ fn all_built_streams_run() {
         ("far links", 32),
         ("self links", 32),
         ("huge jumps", 32),
+        ("zones", 32),
     ] {
         let of = |stream: &&(String, Vec<Call>)| stream.0.starts_with(what);
         assert!(streams.iter().filter(of).count() >= least, "{}", what);
@@ -238,6 +271,7 @@ fn all_built_streams_run() {
     for (name, calls) in &streams {
         let reached = run(calls);
         assert!(reached.yes > 0, "{}", name);
+        assert!(reached.left + reached.right + reached.dark > 0, "{}", name);
         let full = name.starts_with("full log");
         assert_eq!(reached.full_slides > 0, full, "{}", name);
         let apart = name.starts_with("far links") || name.starts_with("self links");

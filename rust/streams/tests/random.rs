@@ -32,6 +32,7 @@ fn name(call: &Call) -> &'static str {
         Call::Clock { .. } => "clock",
         Call::Joined { .. } => "joined",
         Call::Chain { .. } => "chain",
+        Call::Lamps { .. } => "lamps",
         _ => "file",
     }
 }
@@ -63,6 +64,7 @@ fn every_call_gives_every_number() {
         assert_eq!(given["clock"], BTreeSet::from([0, 1, 4, 6]));
         assert_eq!(given["joined"], BTreeSet::from([0, 1, 3]));
         assert_eq!(given["chain"], BTreeSet::from([0, 1, 3, 6, 7]));
+        assert_eq!(given["lamps"], BTreeSet::from([0, 1, 6, 15]));
     }
 }
 
@@ -103,6 +105,8 @@ struct Seen {
     holds: BTreeSet<u32>,
     steps: BTreeSet<u32>,
     cells: BTreeSet<u32>,
+    /// (left, right): which lamps were lit.
+    lamps: BTreeMap<(bool, bool), u32>,
     jumps_over_slides: u32,
     jumps_over_chunks: u32,
     last_ticks: u32,
@@ -147,6 +151,9 @@ fn look(seed: u64, kind: Kind, calls: usize) -> Seen {
                 seen.holds.insert(*hold);
                 seen.cells.insert(*cells);
             }
+            (Call::Lamps { .. }, Answer::Lamps { left, right, .. }) if done => {
+                *seen.lamps.entry((*left, *right)).or_default() += 1;
+            }
             _ => {}
         }
         let slide = history.open_slide();
@@ -170,6 +177,8 @@ fn the_streams_are_wide_enough() {
         assert_eq!(seen.holds.len(), 17, "{}", text);
         assert!(seen.steps.len() >= 8, "{}", text);
         assert!(seen.cells.len() >= 6, "{}", text);
+        assert_eq!(seen.lamps.len(), 4, "{}", text);
+        assert!(seen.lamps.values().all(|&times| times > 20), "{}", text);
         assert!(seen.jumps_over_slides > 200, "{}", text);
         assert!(seen.jumps_over_chunks > 80, "{}", text);
         assert!(seen.last_ticks > 100 && seen.huge_slides > 100, "{}", text);

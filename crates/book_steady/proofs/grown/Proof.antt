@@ -9,11 +9,12 @@ use native.Mathlib.Numerals.{add-one}
 use borrow.Author.Needs.{needs}
 use borrow.Author.Tests.{eq-eqb, ne-eqb, le-leb, lt-leb}
 use lib.ListN.{length, getD}
+use Rattle.numbers.proofs.Flags.{struck, kept}
 use Rattle.forest.specs.Arrays.{places}
 use Rattle.forest.proofs.Fill.{getD-within}
 use Rattle.forest.proofs.Ranged.{Ranged}
 use Rattle.forest_check.specs.Sound.{every, doublesAt}
-use Rattle.forest_check.proofs.Every.{Tested, tested-none, tested-more, tested-all, struck, kept}
+use Rattle.forest_check.proofs.Every.{Tested, tested-none, tested-more, tested-all}
 use Rattle.forest_check.proofs.Facts.{sound-ranged}
 use Rattle.book_steady.specs.Steady.{rootCells}
 use Rattle.book_steady.proofs.grown.Statement.{statement}

@@ -5,16 +5,18 @@
 mod across;
 mod crossing;
 mod forest;
+mod lamps;
 mod listing;
 mod scratch;
 mod text;
 mod time;
 mod trail;
 
-use crate::any_book::{chain_refused, joined_refused, lorry_cell, touch, AnyBook};
+use crate::any_book::{chain_refused, joined_refused, lamps_refused, lorry_cell};
+use crate::any_book::{of_cells, touch, AnyBook};
 use crate::neighbours::Neighbours;
 use forest::{every, Forest, Labelled, CELLS};
-use kerb::calls::{ChainAnswer, Clock, JoinedAnswer};
+use kerb::calls::{ChainAnswer, Clock, JoinedAnswer, LampsAnswer};
 use kerb::{Settings, CHAIN_PLACES, LOG_PLACES};
 pub use listing::list;
 pub use text::{text_in, text_out};
@@ -169,6 +171,19 @@ impl<const CHECKED: bool, const BY_UNIONS: bool> AnyBook for Peer<CHECKED, BY_UN
                 hold: (newest + u64::from(self.clock.n) - 1 - self.open_slide()) as u8,
                 number: 0,
             },
+        }
+    }
+
+    fn lamps(&mut self, mask: &[u8]) -> LampsAnswer {
+        if CHECKED && !self.in_order() {
+            return lamps_refused(1);
+        }
+        if self.log.len() < LOG_PLACES {
+            return lamps_refused(6);
+        }
+        match of_cells(mask) {
+            None => lamps_refused(15),
+            Some(body) => self.lit(body),
         }
     }
 }

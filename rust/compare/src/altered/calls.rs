@@ -1,9 +1,12 @@
 //! Calls for an altered book: to its cells, at ticks round its time, with all
 //! that a call can be refused for now and then.
 
+use super::order::disorder;
+use super::said;
 use crate::state::State;
-use oracle::{CHAIN_PLACES, LOG_PLACES};
+use oracle::{Link, CHAIN_PLACES, LOG_PLACES};
 use streams::hops::{huge_jump, within_a_hop};
+use streams::masks::draw_mask;
 use streams::touching::{far_cell, touching_cell};
 use streams::{draw_settings, Call, Dice, MOST_LOG_PLACES};
 
@@ -12,7 +15,7 @@ const SPOILT: u64 = 25;
 
 /// Draws a call.
 pub fn draw(dice: &mut Dice, state: &State, cells: &[u32]) -> Call {
-    match dice.below(24) {
+    match dice.below(27) {
         0 => {
             let mut settings = draw_settings(dice);
             if dice.one_in(3) {
@@ -40,6 +43,10 @@ pub fn draw(dice: &mut Dice, state: &State, cells: &[u32]) -> Call {
             first: draw_cell(dice, cells),
             second: draw_cell(dice, cells),
         },
+        18..=20 => Call::Lamps {
+            log_places: draw_log_places(dice),
+            mask: draw_mask(dice, &logged_links(state)),
+        },
         _ => Call::Chain {
             first: draw_cell(dice, cells),
             second: draw_cell(dice, cells),
@@ -50,6 +57,14 @@ pub fn draw(dice: &mut Dice, state: &State, cells: &[u32]) -> Call {
                 CHAIN_PLACES + dice.below(3) as usize
             },
         },
+    }
+}
+
+/// The links of the window, of a book that has one.
+fn logged_links(state: &State) -> Vec<Link> {
+    match disorder(&state.book) {
+        None => said::logged_window(state).links,
+        Some(_) => Vec::new(),
     }
 }
 

@@ -7,10 +7,10 @@ use crate::fields::{book_of, labels_of, log_place, narrow, settings_of, spot, HA
 use crate::state::State;
 use kerb::RawBook;
 use oracle::{
-    in_lorrys_numbers, is_cell, number, touch, Chain, Forest, History, Joined, Link, Linked,
+    in_lorrys_numbers, is_cell, number, touch, Chain, Forest, History, Joined, Lamps, Link, Linked,
     Refusal, Settings, LINKS_PER_SLIDE, LOG_PLACES,
 };
-use streams::{lent_places, Answer, Call};
+use streams::{lamps_answer, lent_places, Answer, Call};
 
 /// What a call to a book gives; the state becomes what it leaves.
 pub fn ask(state: &mut State, call: &Call) -> Answer {
@@ -58,6 +58,7 @@ pub fn ask(state: &mut State, call: &Call) -> Answer {
                 lent,
             }
         }
+        Call::Lamps { log_places, mask } => lamps_answer(lamps(state, *log_places, mask)),
         Call::Read { .. }
         | Call::Write { .. }
         | Call::List { .. }
@@ -109,10 +110,9 @@ fn joined(state: &State, cells: [u32; 2]) -> Result<Joined, Refusal> {
     let cut = open_place + 1;
     let (backward, forward) = (backward_forest(&state.book), forward_forest(&state.book));
     let walks = cells.map(|cell| backward.walk_at_cut(cell, cut).steps + forward.walk(cell).steps);
-    let mut steps = steps_of(&forward, 0);
-    steps.extend(steps_of(&backward, cut));
+    let linked = Linked::by(&parent_steps(&state.book));
     Ok(Joined {
-        joined: Linked::by(&steps).group_of(cells[0]).contains(cells[1]),
+        joined: linked.group_of(cells[0]).contains(cells[1]),
         steps: walks.iter().sum(),
     })
 }
@@ -125,10 +125,13 @@ fn chain(
     lent: &mut [u16],
 ) -> Result<Chain, Refusal> {
     in_order(&state.book)?;
-    let book = oracle::Book {
-        history: Some(logged_window(state)),
-    };
-    book.chain(cells[0], cells[1], log_places, lent)
+    logged_book(state).chain(cells[0], cells[1], log_places, lent)
+}
+
+/// By the log alone, as the chain.
+fn lamps(state: &State, log_places: usize, mask: &[u8]) -> Result<Lamps, Refusal> {
+    in_order(&state.book)?;
+    logged_book(state).lamps(log_places, mask)
 }
 
 // The checks.
@@ -253,6 +256,13 @@ fn logged_links(state: &State, spot: usize) -> Vec<(u32, u32)> {
         .collect()
 }
 
+/// A book of the oracle's with the links that the log holds.
+fn logged_book(state: &State) -> oracle::Book {
+    oracle::Book {
+        history: Some(logged_window(state)),
+    }
+}
+
 /// The window's slides, as far as they exist, with the links that the log holds.
 pub fn logged_window(state: &State) -> History {
     let settings = settings_of(&state.book);
@@ -284,6 +294,14 @@ fn backward_forest(book: &RawBook) -> Forest {
         size: book.backward_size.map(u32::from),
         label: book.backward_label.map(u64::from),
     }
+}
+
+/// The parent steps of the two forests, the backward ones at the cut, as links.
+pub fn parent_steps(book: &RawBook) -> Vec<Link> {
+    let (_, open_place) = chunk_and_place(book, book.clock.time);
+    let mut steps = steps_of(&forward_forest(book), 0);
+    steps.extend(steps_of(&backward_forest(book), open_place + 1));
+    steps
 }
 
 /// A forest's parent steps at a cut, as links.

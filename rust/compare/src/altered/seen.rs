@@ -4,11 +4,12 @@ use super::books::KINDS;
 use super::order::{disorder, REASONS};
 use super::said;
 use crate::fields::spot;
-use crate::seen::{count_apart, hop, APART, HOPS};
+use crate::lamps::{lamps_of, lit, LIT};
+use crate::seen::{count_apart, hop, number_row, APART, HOPS};
 use crate::state::State;
 use crate::tally::{number, span, Spans, Tally, NUMBERS};
-use oracle::{touch, CHAIN_PLACES, LOG_PLACES};
-use streams::{Answer, Call};
+use oracle::{touch, Book, CellSet, Linked, CHAIN_PLACES, LOG_PLACES};
+use streams::{lamps_answer, Answer, Call};
 
 const STEPS: &Spans = &[
     (0, "0"),
@@ -16,6 +17,9 @@ const STEPS: &Spans = &[
     (10, "10 to 19"),
     (20, "20 and more"),
 ];
+
+/// By what link a lamp can be lit.
+const LIT_BY: [&str; 2] = ["with another cell", "with itself alone"];
 
 /// The rows that [`count`] and [`count_book`] fill.
 pub fn tally() -> Tally {
@@ -29,6 +33,7 @@ pub fn tally() -> Tally {
         ("clock, number", &["0", "1", "4", "6"]),
         ("joined, number", &["0", "1", "3"]),
         ("chain, number", &["0", "1", "3", "6", "7"]),
+        ("lamps, number", &["0", "1", "6", "15"]),
         (
             "time moved",
             &["within the chunk", "to the next", "over chunks"],
@@ -57,6 +62,9 @@ pub fn tally() -> Tally {
         ("its links", &["touch", "do not all touch"]),
         ("hold of two cells", &NUMBERS[..16]),
         ("hold of a cell with itself", &NUMBERS[1..]),
+        ("lamps lit", &LIT),
+        ("a lamp is lit by a link", &LIT_BY),
+        ("lamps by the forests", &["the same", "others"]),
     ])
 }
 
@@ -73,14 +81,7 @@ pub fn count_book(tally: &mut Tally, kind: &str, state: &State) {
 
 /// Counts a call: the states are those before and after it.
 pub fn count(tally: &mut Tally, before: &State, after: &State, call: &Call, answer: &Answer) {
-    let row = match call {
-        Call::Opening { .. } => "opening, number",
-        Call::Link { .. } => "link, number",
-        Call::Clock { .. } => "clock, number",
-        Call::Joined { .. } => "joined, number",
-        _ => "chain, number",
-    };
-    tally.count(row, number(answer.number()));
+    tally.count(number_row(call), number(answer.number()));
     count_apart(tally, call, answer);
     match answer.number() {
         0 => count_done(tally, before, after, call, answer),
@@ -120,6 +121,7 @@ fn count_done(tally: &mut Tally, before: &State, after: &State, call: &Call, ans
             tally.count(row, number(*hold));
             count_window(tally, after);
         }
+        (Call::Lamps { mask, .. }, _) => count_lamps(tally, after, mask, answer),
         _ => {}
     }
 }
@@ -173,6 +175,32 @@ fn count_window(tally: &mut Tally, state: &State) {
         "do not all touch"
     };
     tally.count("its links", links);
+}
+
+fn count_lamps(tally: &mut Tally, state: &State, mask: &[u8], answer: &Answer) {
+    let lamps = lamps_of(answer);
+    tally.count("lamps lit", lit(lamps));
+    let linked = Linked::by(&said::logged_window(state).links);
+    for cell in [lamps.left, lamps.right].into_iter().flatten() {
+        let with_itself = *linked.with(cell) == CellSet::EMPTY;
+        let class = LIT_BY[usize::from(with_itself)];
+        tally.count("a lamp is lit by a link", class);
+    }
+    let same = lamps_by_forests(state, mask) == *answer;
+    let class = if same { "the same" } else { "others" };
+    tally.count("lamps by the forests", class);
+}
+
+/// What the lamps would be if they went by the forests, as joined does.
+fn lamps_by_forests(state: &State, mask: &[u8]) -> Answer {
+    let mut history = said::logged_window(state);
+    let slide = history.open_slide();
+    history.links = said::parent_steps(&state.book);
+    history.links.iter_mut().for_each(|link| link.slide = slide);
+    let book = Book {
+        history: Some(history),
+    };
+    lamps_answer(book.lamps(LOG_PLACES, mask))
 }
 
 /// Whether the log chains two cells, whatever the forests say.

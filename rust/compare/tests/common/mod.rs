@@ -88,6 +88,25 @@ pub fn chain(books: &mut Lockstep, first: u32, second: u32) -> (u32, u64, u32, V
     }
 }
 
+/// (number, the cell that lights the left lamp, the cell that lights the right one).
+pub fn lamps(books: &mut Lockstep, mask: Vec<u8>) -> (u32, Option<u32>, Option<u32>) {
+    let log_places = LOG_PLACES;
+    match put(books, Call::Lamps { log_places, mask }) {
+        Answer::Lamps {
+            number,
+            left,
+            right,
+            left_cell,
+            right_cell,
+        } => (
+            number,
+            left.then_some(left_cell),
+            right.then_some(right_cell),
+        ),
+        other => unreachable!("{:?}", other),
+    }
+}
+
 /// The text that kerblist prints for a file.
 pub fn listing(file: &[u8]) -> String {
     let call = Call::List {

@@ -1,0 +1,4 @@
+pub mod Laws
+pub mod Mask
+pub mod Search
+pub mod Groups

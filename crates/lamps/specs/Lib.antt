@@ -1,0 +1,4 @@
+pub mod Groups
+pub mod Lamps
+pub mod Mask
+pub mod Zones

@@ -1,0 +1,4 @@
+pub mod Joining
+pub mod Laws
+pub mod Rooting
+pub mod WindowEnds
