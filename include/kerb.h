@@ -369,7 +369,7 @@ KERB_LOOK_AT struct kerb_groups_answer kerb_groups(const struct kerb_book *book,
  * other; KERB_CELLS of them, and later bytes are not looked at. A mask without a 1 is allowed. A body cell is joined to itself, so
  * it lights no lamp. The call changes nothing and moves no time: kerb_clock lets old links leave the window.
  * Refuses, in this order: 1, 6 (the log), 15; then both lamps are false, WHICH IS NOT DARK: a panel that does not know lights them.
- * Stack: 24 KB.
+ * Stack: 11 KB.
  */
 KERB_LOOK_AT struct kerb_lamps_answer kerb_lamps(const struct kerb_book *book, const uint16_t *log, size_t log_places,
                                                  const uint8_t *mask, size_t mask_bytes);

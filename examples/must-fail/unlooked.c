@@ -16,6 +16,7 @@ int main(void)
     kerb_joined(&book, 1, 2);                                                                      /* warns */
     kerb_chain(&book, KERB_PLACES(the_log), 1, 2, KERB_PLACES(cells));                             /* warns */
     kerb_groups(&book, KERB_PLACES(the_log), KERB_PLACES(cells), KERB_PLACES(sizes), KERB_PLACES(bytes)); /* warns */
+    kerb_lamps(&book, KERB_PLACES(the_log), KERB_PLACES(bytes));                                   /* warns */
     kerb_play(&book, KERB_PLACES(the_log), bytes, 24);                                             /* warns */
     kerb_read(bytes, 24);                                                                          /* warns */
     kerb_write(settings, bytes, 8, KERB_PLACES(bytes));                                            /* warns */

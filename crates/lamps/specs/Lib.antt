@@ -1,3 +1,4 @@
+pub mod Example
 pub mod Groups
 pub mod Lamps
 pub mod Mask

@@ -34,26 +34,28 @@ impl Scratch {
         Scratch { parent: *parent }
     }
 
-    /// The root of a cell's group; on the way each second parent is shortened.
+    /// The root of a cell's group; on the way each second parent is shortened. Two parents are read ahead, and the numbers of cells are
+    /// brought below `CELLS`, where they are anyway: so no step tests an index.
     pub fn root(&mut self, cell: u16) -> u16 {
         let mut at = cell;
-        loop {
-            let above = self.parent[usize::from(at)];
-            if above == at {
-                return at;
-            }
-            let top = self.parent[usize::from(above)];
-            if top == above {
-                return above;
-            }
-            self.parent[usize::from(at)] = top;
+        let mut above = self.above(at);
+        let mut top = self.above(above);
+        while top != above {
+            self.put_under(at, top);
             at = top;
+            above = self.above(at);
+            top = self.above(above);
         }
+        above
     }
 
-    /// Puts one root under another.
+    fn above(&self, cell: u16) -> u16 {
+        self.parent[usize::from(cell) % CELLS]
+    }
+
+    /// Puts one cell under another.
     pub fn put_under(&mut self, child: u16, top: u16) {
-        self.parent[usize::from(child)] = top;
+        self.parent[usize::from(child) % CELLS] = top;
     }
 
     /// Makes one group of two cells' groups: the larger root goes under the smaller, so that a root is its group's smallest cell. Gives
