@@ -1,4 +1,4 @@
--- The ends of the window's links, beside the groups of the window (RULES 11).
+-- The ends of the window's links, beside the groups of the window (RULES 11.3).
 use mathlib.Core.Bool.{Bool, false, cond, _||_}
 use mathlib.Core.List.{List, [], _∷_, map}
 use lib.Dec.{eqb}
