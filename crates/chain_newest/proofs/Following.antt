@@ -4,11 +4,9 @@
 -- chain, and not on their order (`tracks-relinked`).
 use Prim.Native.Nat.{ℕ, zero, suc, _+_, _*_, _≤_, _<_, min, max}
 use mathlib.Core.Path.{_≡_, refl, sym, ap, _∙_, subst}
-use mathlib.Core.Bool.{Bool, true, false, cond, _&&_}
 use mathlib.Core.List.{List, [], _∷_, _++_, append-nil, append-assoc}
 use mathlib.Core.Logic.{⊎-elim}
 use native.Mathlib.Omega.{arith}
-use lib.Dec.{ltb}
 use Rattle.graph.specs.Link.{Link, Linked, here, there, Chained, group}
 use Rattle.graph.specs.Forest.{put}
 use Rattle.graph.proofs.Chains.{chained-group, group-chained, chained-relink, chained-left, linked-left, linked-right, linked-append-cases}

@@ -4,16 +4,16 @@
 -- 15. The links of the window that it holds link and chain the cells that those of the history's window do (WindowIs), and joined says
 -- by these whether two cells are chained (JoinedIs). So what the crate lamps says of the links that are held (its laws) is what the
 -- history says, and nothing of the book's forests is looked at here.
-use Prim.Native.Nat.{ℕ, zero, suc, _≤_, _<_}
+use Prim.Native.Nat.{ℕ, _<_}
 use mathlib.Core.Path.{_≡_, refl, sym, ap, _∙_}
-use mathlib.Core.Bool.{Bool, true, false, true≢false, false≢true, and-eq-true-iff}
-use mathlib.Core.List.{List, [], _∷_}
+use mathlib.Core.Bool.{Bool, true, false, true≢false, and-eq-true-iff}
+use mathlib.Core.List.{List}
 use mathlib.Core.Logic.{_↔_, _⊎_}
 use native.Mathlib.Omega.{arith}
 use lib.ListN.{length, getD}
 use borrow.Author.Tests.{lt-ltb, eqb-true}
 use Rattle.numbers.specs.Checks.{unless}
-use Rattle.numbers.proofs.Checks.{passes, first-last, unless-failed}
+use Rattle.numbers.proofs.Checks.{passes, first-last}
 use Rattle.graph.specs.Link.{Linked}
 use Rattle.cells.specs.Cell.{sectors}
 use Rattle.book_state.specs.declared.Book.{Book}
@@ -29,7 +29,7 @@ use Rattle.lamps.proofs.Mask.{no-mask}
 use Rattle.demands.specs.History.{History, windowOf}
 use Rattle.demands.specs.Implementation.{ours, State, givesLamps}
 use Rattle.demands.specs.Demands.{Lights, LampIs, Lamps}
-use Rattle.demands.specs.WindowIs.{heldLinks, WindowIs}
+use Rattle.demands.specs.WindowIs.{heldLinks}
 use Rattle.demands.specs.Agrees.{Agrees}
 use Rattle.demands.proofs.InOrder.{agrees-in-order}
 use Rattle.demands.proofs.JoinedIs.{joined-window}

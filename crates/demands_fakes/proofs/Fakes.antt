@@ -39,8 +39,6 @@ use Rattle.chain.specs.Chain.{ChainOutcome, chainPlaces}
 use Rattle.demands.specs.History.{Call, opening, link, clock, History, begun, withTime, withLink, historyFrom, oneMore, firstByNumber, ofSlides, howMany, numberIn, added, addedByNumber, windowOf}
 use Rattle.window_ends.specs.Ends.{isEnd}
 use Rattle.window_ends.proofs.Laws.{linked-end}
-use Rattle.lamps.specs.declared.Lamp.{Lamp}
-use Rattle.lamps.specs.declared.LampsAnswer.{LampsAnswer}
 use Rattle.lamps.specs.Mask.{isMask, isBody}
 use Rattle.lamps.specs.Zones.{leftZone, rightZone, inZone}
 use Rattle.lamps.specs.Lamps.{onBody, lights}

@@ -1,20 +1,18 @@
 -- The lamps by what is known of each cell. A group is dark where one of its cells is bodywork: marked at the group's smallest cell, it is
 -- told for each of its cells. Two cells have the same smallest cell exactly when links chain them, so a cell's group is dark exactly
 -- when the cell is joined to a body cell.
-use Prim.Native.Nat.{ℕ, suc, _+_, _≤_, _<_}
+use Prim.Native.Nat.{ℕ, _+_, _<_}
 use mathlib.Core.Path.{_≡_, refl, sym, ap, ap₂, _∙_}
-use mathlib.Core.Bool.{Bool, true, false, cond, not, _&&_, _||_, true≢false, false≢true}
+use mathlib.Core.Bool.{Bool, true, false, cond, not, _&&_, _||_}
 use mathlib.Core.List.{List}
-use mathlib.Core.Logic.{_↔_}
-use native.Mathlib.Omega.{arith}
 use native.Mathlib.Decide.{ℕ-discrete}
 use native.Mathlib.Numerals.{add-one}
 use lib.Dec.{eqb}
-use lib.ListN.{length, getD, set, length-set}
+use lib.ListN.{getD, set, length-set}
 use lib.Seq.{getD-set-same, getD-set-other}
-use borrow.Author.Tests.{eq-eqb, ne-eqb, eqb-true}
-use Rattle.graph.specs.Link.{Link, Chained, chains}
-use Rattle.graph.proofs.Chains.{true-chains, chains-true, false-chains}
+use borrow.Author.Tests.{eq-eqb, ne-eqb}
+use Rattle.graph.specs.Link.{Link, chains}
+use Rattle.graph.proofs.Chains.{true-chains, false-chains}
 use Rattle.cells.specs.Cell.{sectors}
 use Rattle.slides.specs.declared.Clock.{Clock}
 use Rattle.book_state.specs.Arrays.{cells}
@@ -23,7 +21,7 @@ use Rattle.window_ends.proofs.Laws.{first-below, linked-at, same-first}
 use Rattle.lamps.specs.Mask.{isBody}
 use Rattle.lamps.specs.Zones.{Zone, inZone}
 use Rattle.lamps.specs.Lamps.{someBelow, onBody, lights}
-use Rattle.lamps.specs.Groups.{Firsts, bodyIn, Marks, lightsBy}
+use Rattle.lamps.specs.Groups.{bodyIn, Marks, lightsBy}
 use Rattle.lamps.proofs.Search.{some-agree}
 
 -- ---- the marks, cell by cell

@@ -4,11 +4,11 @@
 -- linked and chained with no body cell.
 use Prim.Native.Nat.{ℕ, _≤_, _<_}
 use mathlib.Core.Path.{_≡_, refl, sym, _∙_}
-use mathlib.Core.Bool.{Bool, true, false, not, _&&_, and-eq-true-iff, false≢true, true≢false}
+use mathlib.Core.Bool.{Bool, true, false, not, _&&_, and-eq-true-iff, true≢false}
 use mathlib.Core.List.{List}
 use mathlib.Core.Logic.{_↔_}
 use native.Mathlib.Omega.{arith}
-use borrow.Author.Tests.{eq-eqb, eqb-true, not-true}
+use borrow.Author.Tests.{not-true}
 use Rattle.graph.specs.Link.{Link, Linked, Chained, chains}
 use Rattle.graph.proofs.Chains.{chains-true, true-chains}
 use Rattle.cells.specs.Cell.{sectors}
@@ -19,7 +19,7 @@ use Rattle.lamps.specs.Mask.{isBody}
 use Rattle.lamps.specs.Zones.{Zone, inZone}
 use Rattle.lamps.specs.Zones.Laws.{zone-low}
 use Rattle.lamps.specs.Lamps.{onBody, lights, lampIn}
-use Rattle.lamps.proofs.Search.{some-true, true-some, SmallestOf, lit-by, dark-zero, lit}
+use Rattle.lamps.proofs.Search.{some-true, true-some, lit-by, dark-zero, lit}
 
 -- in a zone there are cells alone
 pub zone-cell : (zone : Zone) (c : ℕ) → inZone sectors zone c ≡ true → c < cells
@@ -42,7 +42,8 @@ module _ (links : List Link) (mask : List ℕ) (zone : Zone) where
           record {
             inside = v .0;
             linked = end-linked links c (v .1);
-            free = λ b h body chained. true≢false (sym (some-true cells (λ d. isBody mask d && chains links c d) h (and-eq-true-iff _ _ .1 (body, true-chains chained))) ∙ not-true _ (w .1));
+            free = λ b h body chained.
+                true≢false (sym (some-true cells (λ d. isBody mask d && chains links c d) h (and-eq-true-iff _ _ .1 (body, true-chains chained))) ∙ not-true _ (w .1));
           }
 
       free-told : Lights c → (b : Bool) → onBody links mask c ≡ b → not b ≡ true
@@ -66,7 +67,10 @@ module _ (links : List Link) (mask : List ℕ) (zone : Zone) where
   pub lamp-says : LampSays (lampIn links mask zone .lit) (lampIn links mask zone .cell)
   lamp-says =
       record {
-        lit = (λ e. (_, lights-is _ .0 (lit-by (lights links mask zone) 0 cells e .0)), λ w. lit (lights links mask zone) 0 cells (omega arith) (omega (arith, zone-cell zone (w .0) (w .1 .inside))) (lights-is (w .0) .1 (w .1)));
+        lit = (
+          λ e. (_, lights-is _ .0 (lit-by (lights links mask zone) 0 cells e .0)),
+          λ w. lit (lights links mask zone) 0 cells (omega arith) (omega (arith, zone-cell zone (w .0) (w .1 .inside))) (lights-is (w .0) .1 (w .1)),
+        );
         smallest = λ e.
             let w = lit-by (lights links mask zone) 0 cells e in
             (lights-is _ .0 (w .0), λ c l. w .1 c (omega arith) (lights-is c .1 l));

@@ -1,8 +1,7 @@
 -- The example of RULES 11.6, computed: the tail lift, cells 94 to 96, and a walker, cells 161, 162 and 227, whom one link ties to it.
-use Prim.Native.Nat.{ℕ}
 use mathlib.Core.Path.{_≡_, refl}
 use mathlib.Core.Bool.{true, false}
-use mathlib.Core.List.{List, [], _∷_, _++_}
+use mathlib.Core.List.{List, [], _∷_}
 use lib.ListN.{set, replicate}
 use Rattle.numbers.specs.Kinds.{Bytes, Cell}
 use Rattle.graph.specs.Link.{Link, group, chains}

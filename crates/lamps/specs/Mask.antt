@@ -1,7 +1,7 @@
 -- The body mask (RULES 11.2): a byte for each cell in the lorry's numbers, 1 for the lorry's own bodywork and 0 for all else.
 use Prim.Native.Nat.{ℕ, zero, suc}
 use mathlib.Core.Bool.{Bool, true, false, _&&_}
-use mathlib.Core.List.{List, [], _∷_}
+use mathlib.Core.List.{[], _∷_}
 use lib.Dec.{eqb, leb}
 use lib.ListN.{getD}
 use Rattle.numbers.specs.Kinds.{Bytes, Cell}

@@ -2,7 +2,7 @@
 use super::CELLS;
 ghost use mathlib.Core.Path.{_≡_};
 ghost use Prim.Native.Nat.{_≤_, _<_};
-ghost use lib.ListN.{length, getD};
+ghost use lib.ListN.{length};
 ghost use Rattle.book_state.specs.Arrays.{cells};
 ghost use Rattle.lamps.specs.Mask.{isMask};
 ghost use Rattle.lamps.specs.Groups.{Firsts, Marks};

@@ -51,7 +51,7 @@ fn lamps_number(ordered: bool, log: &[u16], mask: &[u8]) -> u8
     0
 }
 
-// The lamps of a window.
+// The lamps of a window. Sectors 33 to 63 are on the left, 1 to 31 on the right.
 fn of_window(clock: Clock, counts: &[u16; 32], log: &[u16], mask: &[u8]) -> LampsAnswer
     requires { ⌜ Readable (clock .n) (now counts) (now log) × (isMask cells (now mask) ≡ true) ⌝ }
     ensures { λ r. ⌜ r ≡ lampsByNumber 0 (linksIn clock (now (counts .entry)) (now (log .entry))) (now (mask .entry)) ⌝ }

@@ -10,7 +10,7 @@ ghost use Rattle.lamps.specs.Zones.{inZone};
 ghost use Rattle.lamps.specs.Lamps.{lampFrom};
 ghost use Rattle.lamps.specs.Groups.{Firsts, lightsBy};
 
-// The lamp of the zone of rings 0 to 5 and the sectors from the first up to the end: cell by cell, upward.
+// The lamp of the zone of rings 0 to 5 and the sectors from the first up to the end: cell by cell, upward. Six rings have 384 cells.
 pub fn lamp_of<'a>(
     from: u16,
     end: u16,

@@ -1,16 +1,14 @@
 -- `lamps::of_window` meets its contract: what the code knows of each cell is what the definition asks of the window's links
 -- (proofs/Groups.antt), and so are the lamps.
-use Prim.Native.Nat.{ℕ, _<_}
-use mathlib.Core.Path.{_≡_, refl, sym, ap, _∙_}
+use Prim.Native.Nat.{ℕ}
+use mathlib.Core.Path.{_≡_, _∙_}
 use mathlib.Core.List.{List}
-use lib.ListN.{getD}
 use Rattle.cells.specs.Cell.{sectors}
 use Rattle.slides.specs.declared.Clock.{Clock}
 use Rattle.book_state.specs.Arrays.{cells}
 use Rattle.window_ends.specs.declared.Ends.{Ends}
 use Rattle.window_ends.specs.Ends.{linksIn, endsOf}
 use Rattle.window_ends.proofs.Laws.{first-below}
-use Rattle.lamps.specs.declared.Lamp.{Lamp}
 use Rattle.lamps.specs.Zones.{Zone, leftZone, rightZone}
 use Rattle.lamps.specs.Lamps.{lampFrom, lampIn, lampsByNumber}
 use Rattle.lamps.specs.Groups.{Firsts, Marks, lightsBy}

@@ -12,7 +12,6 @@ use Rattle.book_state.specs.declared.Book.{Book}
 use Rattle.book_state.specs.Arrays.{cells}
 use Rattle.book_state.specs.Numbers.{logPlaces}
 use Rattle.book_state.specs.Order.{bookOf, inOrder}
-use Rattle.book_state.specs.Log.{Readable}
 use Rattle.book_state.proofs.Checks.{readable}
 use Rattle.lamps.specs.Mask.{isMask}
 use Rattle.lamps.specs.Lamps.{lampsNumberIn, lampsByNumber, lampsOf}

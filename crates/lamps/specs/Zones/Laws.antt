@@ -5,9 +5,8 @@ use mathlib.Core.Bool.{Bool, true, false, and-eq-true-iff}
 use mathlib.Core.List.{List, [], _∷_, map}
 use mathlib.Core.Logic.{_↔_}
 use native.Mathlib.Nat.{div-lt-iff-lt-mul}
-use lib.Dec.{leb, ltb}
+use lib.Dec.{ltb}
 use borrow.Author.Tests.{leb-true, ltb-true, le-leb, lt-ltb}
-use Rattle.numbers.specs.Kinds.{Cell}
 use Rattle.cells.specs.Cell.{sectors, cellAt, ringOf, sectorOf}
 use Rattle.lamps.specs.Zones.{Zone, zoneRings, leftZone, rightZone, inZone}
 

@@ -1,10 +1,9 @@
 -- `lamps::body::groups` meets its contract: after i cells the groups of the body cells below i are marked (proofs/Groups.antt).
-use Prim.Native.Nat.{ℕ, _-_, _≤_, _<_}
+use Prim.Native.Nat.{_-_, _≤_, _<_}
 use mathlib.Core.Path.{_≡_, refl}
 use mathlib.Core.Logic.{inl, inr}
 use native.Mathlib.Omega.{arith}
-use borrow.Author.Needs.{needs}
-use lib.ListN.{length, getD, getD-replicate}
+use lib.ListN.{getD, getD-replicate}
 use Rattle.book_state.specs.Arrays.{cells}
 use Rattle.lamps.specs.Lamps.{someBelow}
 use Rattle.lamps.specs.Groups.{Marks}

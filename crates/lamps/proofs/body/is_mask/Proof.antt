@@ -1,13 +1,12 @@
 -- `lamps::body::is_mask` meets its contract: after i bytes the flag says whether all of them are 0 or 1.
-use Prim.Native.Nat.{_+_, _-_, _≤_}
+use Prim.Native.Nat.{_-_, _≤_}
 use mathlib.Core.Path.{_≡_, refl, sym, ap, _∙_}
 use mathlib.Core.Bool.{_&&_}
 use native.Mathlib.Omega.{arith}
 use native.Mathlib.Numerals.{add-one}
-use borrow.Author.Needs.{needs}
 use borrow.Author.Tests.{le-leb, lt-leb}
 use lib.Dec.{leb}
-use lib.ListN.{length, getD}
+use lib.ListN.{getD}
 use Rattle.numbers.proofs.Flags.{flagged}
 use Rattle.book_state.specs.Arrays.{cells}
 use Rattle.lamps.specs.Mask.{isMask}
