@@ -4,7 +4,7 @@
 -- 15. The links of the window that it holds link and chain the cells that those of the history's window do (WindowIs), and joined says
 -- by these whether two cells are chained (JoinedIs). So what the crate lamps says of the links that are held (its laws) is what the
 -- history says, and nothing of the book's forests is looked at here.
-use Prim.Native.Nat.{ℕ, _<_}
+use Prim.Native.Nat.{ℕ, suc, _≤_, _<_}
 use mathlib.Core.Path.{_≡_, refl, sym, ap, _∙_}
 use mathlib.Core.Bool.{Bool, true, false, true≢false, and-eq-true-iff}
 use mathlib.Core.List.{List}
@@ -15,7 +15,7 @@ use borrow.Author.Tests.{lt-ltb, eqb-true}
 use Rattle.numbers.specs.Checks.{unless}
 use Rattle.numbers.proofs.Checks.{passes, first-last}
 use Rattle.graph.specs.Link.{Linked}
-use Rattle.cells.specs.Cell.{sectors}
+use Rattle.cells.specs.Cell.{sectors, ringOf, sectorOf}
 use Rattle.book_state.specs.declared.Book.{Book}
 use Rattle.book_state.specs.Arrays.{cells}
 use Rattle.book_state.specs.Numbers.{areCells}
@@ -24,11 +24,12 @@ use Rattle.window_ends.specs.Ends.{linksIn}
 use Rattle.lamps.specs.Lamps.{lampIn, lampsNumberIn, lampsByNumber, lampsOf}
 use Rattle.lamps.specs.Mask.{isMask, isBody}
 use Rattle.lamps.specs.Zones.{Zone, leftZone, rightZone, inZone}
+use Rattle.lamps.specs.Zones.Laws.{in-zone}
 use Rattle.lamps.proofs.Laws as laws
 use Rattle.lamps.proofs.Mask.{no-mask}
 use Rattle.demands.specs.History.{History, windowOf}
 use Rattle.demands.specs.Implementation.{ours, State, givesLamps}
-use Rattle.demands.specs.Demands.{Lights, LampIs, Lamps}
+use Rattle.demands.specs.Demands.{Zones, Lights, LampIs, Lamps}
 use Rattle.demands.specs.WindowIs.{heldLinks}
 use Rattle.demands.specs.Agrees.{Agrees}
 use Rattle.demands.proofs.InOrder.{agrees-in-order}
@@ -36,6 +37,22 @@ use Rattle.demands.proofs.JoinedIs.{joined-window}
 use Rattle.demands.proofs.Keeps.{keeps}
 use Rattle.demands.proofs.NumbersAgree.{itself}
 use Rattle.demands.proofs.WindowIs.{agrees-window}
+
+-- ---- the zones
+
+-- a zone by its last sector
+by-last : (zone : Zone) (last : ℕ) → zone .end ≡ suc last → (c : ℕ) →
+    (inZone sectors zone c ≡ true) ↔ ((ringOf sectors c ≤ 5) × (zone .from ≤ sectorOf sectors c) × (sectorOf sectors c ≤ last))
+by-last zone last end c =
+    let is = in-zone sectors zone c in (
+      λ e. let w = is .0 e in (omega (arith, w .0), w .1, omega (arith, w .2, end)),
+      λ w. is .1 (omega (arith, w .0), w .1, omega (arith, w .2, end)),
+    )
+
+zones : Zones
+zones = record { left = by-last (leftZone sectors) 63 refl; right = by-last (rightZone sectors) 31 refl }
+
+-- ---- the call
 
 pub lamps-gives : (b : Book) (log mask : List ℕ) → lampsOf b log mask .number ≡ lampsNumberIn (inOrder b) log mask
 unfolding lampsOf lampsByNumber
@@ -124,6 +141,7 @@ module _ {h : History} {s : State} (agrees : Agrees h s) where
 pub lamps : Lamps ours
 lamps =
     record {
+      zones = zones;
       number = λ s cs h told. lamps-number (keeps s cs h told);
       fifteen = λ s cs h told. lamps-fifteen (keeps s cs h told);
       left = λ s cs h told. left-told (keeps s cs h told);

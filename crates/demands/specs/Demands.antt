@@ -14,7 +14,7 @@ use Rattle.graph.specs.Trail.{Best}
 use Rattle.graph.specs.Forest.{Forest, forestOf, walk, walkAt, parentAt}
 use Rattle.settings.specs.Settings.{takenNumber}
 use Rattle.settings.specs.declared.Settings.{Settings}
-use Rattle.cells.specs.Cell.{sectors, lorryCell}
+use Rattle.cells.specs.Cell.{sectors, ringOf, sectorOf, lorryCell}
 use Rattle.cells.specs.Touching.{touch}
 use Rattle.cells.specs.declared.Fitting.{Fitting}
 use Rattle.slides.specs.Clock.{notBefore, slideOf, openSlide}
@@ -239,6 +239,13 @@ pub record Touching : Type 0 where
   pub linked : (room : Bool) (cs : List Call) (h : History) → historyOf room cs ≡ some h →
       (one other : ℕ) → Linked one other (linksOf (h .links)) → touch one other ≡ true
 
+-- the zones, in the lorry's numbers: rings 0 to 5, on the left sectors 33 to 63, on the right sectors 1 to 31 (RULES 11.1)
+pub record Zones : Type 0 where
+  pub left : (c : ℕ) →
+      (inZone sectors (leftZone sectors) c ≡ true) ↔ ((ringOf sectors c ≤ 5) × (33 ≤ sectorOf sectors c) × (sectorOf sectors c ≤ 63))
+  pub right : (c : ℕ) →
+      (inZone sectors (rightZone sectors) c ≡ true) ↔ ((ringOf sectors c ≤ 5) × (1 ≤ sectorOf sectors c) × (sectorOf sectors c ≤ 31))
+
 -- a cell that lights a lamp: it is in the lamp's zone, an end of a link of the window, and joined says no with every body cell (RULES 11.3)
 pub record Lights (p : Implementation) (s : State) (h : History) (mask : Bytes) (zone : Zone) (c : ℕ) : Type 0 where
   pub inside : inZone sectors zone c ≡ true
@@ -257,6 +264,7 @@ pub record LampIs (p : Implementation) (s : State) (h : History) (mask : Bytes) 
 -- the lamps: the number is 0 or 15, and 15 exactly when the mask is under 1,024 bytes or has another value than 0 and 1 among the first
 -- 1,024 (RULES 11.2, 7.2); with 0 both lamps are as the history says
 pub record Lamps (p : Implementation) : Type 0 where
+  pub zones : Zones
   pub number : AfterCalls p λ s h. (mask : Bytes) → givesLamps p s mask .number ≡ unless (isMask cells mask) 15
   pub fifteen : AfterCalls p λ s h. (mask : Bytes) →
       (givesLamps p s mask .number ≡ 15) ↔ ((length mask < cells) ⊎ ((i : ℕ) × (i < cells) × (1 < getD mask i 0)))
