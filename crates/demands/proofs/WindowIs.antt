@@ -5,15 +5,13 @@
 -- links the same cells chains the same cells, and groups are told by chains (the crate window_groups).
 use Prim.Native.Nat.{ℕ}
 use mathlib.Core.Path.{_≡_}
-use mathlib.Core.Bool.{true, and-eq-true-iff}
+use mathlib.Core.Bool.{true}
 use mathlib.Core.Logic.{_↔_}
 use native.Mathlib.Omega.{arith}
-use lib.Dec.{ltb}
-use borrow.Author.Tests.{ltb-true}
 use Rattle.graph.specs.Link.{Chained}
 use Rattle.graph.proofs.Chains.{Relinks, chained-relink}
-use Rattle.book_state.specs.Arrays.{cells}
 use Rattle.book_state.specs.Numbers.{areCells}
+use Rattle.book_state.proofs.Checks.{two-cells}
 use Rattle.window.proofs.WindowLinks.{window-all}
 use Rattle.window_groups.proofs.SameGroup.{same-first}
 use Rattle.demands.specs.History.{History, windowOf}
@@ -37,8 +35,8 @@ module _ {h : History} {s : State} (agrees : Agrees h s) where
 
   same-groups : (a b : ℕ) → areCells a b ≡ true → (firstOfGroup s a ≡ firstOfGroup s b) ↔ Chained (windowOf h) a b
   same-groups a b are =
-      let two = and-eq-true-iff (ltb a cells) _ .0 are in
-      let told = rw (window-all (s .book .clock) (s .book .counts) (s .log)) at (same-first (s .book .clock) (s .book .counts) (s .log) a b (ltb-true _ _ (two .0)) (ltb-true _ _ (two .1))) in
+      let two = two-cells are in
+      let told = rw (window-all (s .book .clock) (s .book .counts) (s .log)) at (same-first (s .book .clock) (s .book .counts) (s .log) a b (two .0) (two .1)) in
       (λ e. same-chains a b .0 (told .0 e), λ x. told .1 (same-chains a b .1 x))
 
   pub agrees-window : WindowIs s h

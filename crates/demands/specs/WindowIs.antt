@@ -3,20 +3,21 @@
 use Prim.Native.Nat.{ℕ, _-_, _≤_, _<_}
 use mathlib.Core.Path.{_≡_}
 use mathlib.Core.Bool.{true}
-use mathlib.Core.List.{List, map, reverse}
+use mathlib.Core.List.{List, reverse}
 use mathlib.Core.Logic.{_↔_}
 use lib.ListN.{getD}
 use Rattle.numbers.specs.Kinds.{Cell}
 use Rattle.graph.specs.Link.{Link, Linked, Chained}
 use Rattle.book_state.specs.Numbers.{areCells}
-use Rattle.window.specs.Window.{linksOfAge, windowLinks}
+use Rattle.window.specs.Window.{linksOfAge}
+use Rattle.window_ends.specs.Ends.{linksIn}
 use Rattle.window_groups.specs.Groups.{groupsOf}
 use Rattle.demands.specs.History.{History, openSlideIn, slideLinks, linksOf, windowOf}
 use Rattle.demands.specs.Implementation.{State}
 
 -- the links of the window that a book and its log hold
 abbrev pub heldLinks : State → List Link
-heldLinks s = map (λ x. x .link) (windowLinks (s .book .clock) (s .book .counts) (s .log))
+heldLinks s = linksIn (s .book .clock) (s .book .counts) (s .log)
 
 -- the smallest cell of a cell's group
 abbrev pub firstOfGroup : (state : State) (cell : Cell) → ℕ
