@@ -1,11 +1,11 @@
 -- Cells and mounting (RULES 1): rings of sectors, and the lorry's number of a unit's cell.
 --
 -- The mirror rule is `mirrorSector`, and nothing else says it. It and `mirrorOver` are shut: only the modules below this one
--- open them. Everyone else goes by the laws (Cell/Laws). All but the examples, those on the axis and what sector 0 and the others
--- become (`rule-zero`, `rule-other`, for Touching/Laws) hold of any rule that keeps to the sectors and, taken twice, changes
--- nothing. All is said over the number of sectors of a ring; the unit of RULES 1.1, of 64, comes last.
+-- open them. Everyone else goes by the laws (Cell/Laws). All but the examples, those on the axis, what sector 0 and the others
+-- become (`rule-zero`, `rule-other`, for Touching/Laws) and the number worked out (`mirror-number`, for the code) hold of any rule
+-- that keeps to the sectors and, taken twice, changes nothing. All is said over the number of sectors of a ring; the unit of RULES
+-- 1.1, of 64, comes last.
 pub mod Laws
-pub mod Table
 use Prim.Native.Nat.{ℕ, _+_, _*_, _-_, _/_, _%_}
 use mathlib.Core.Bool.{cond}
 use lib.Dec.{eqb, ltb}

@@ -1,7 +1,4 @@
 // The lorry's numbers of a unit's cells, by the way the unit is mounted, and which cells touch (RULES 1).
-mod table;
-
-use table::MIRROR;
 ghost use mathlib.Core.Path.{_≡_};
 ghost use Rattle.cells.specs.Cell.{sectors, ringOf, sectorOf, mirror, lorryCell, unitCell};
 ghost use Rattle.cells.specs.Touching.{difference, touch};
@@ -15,12 +12,13 @@ pub struct Fitting {
     pub pad: [u8; 3],
 }
 
-// The lorry's number of a mirrored unit's cell. A number that is no cell comes back unchanged.
+// The lorry's number of a mirrored unit's cell: in the same ring, sector (64 - s) mod 64. A number that is no cell comes back
+// unchanged.
 pub fn mirrored(cell: u16) -> u16
     ensures { λ r. ⌜ r ≡ mirror cell ⌝ }
 {
     if cell < 1024 {
-        MIRROR[cell as usize]
+        64 * ring(cell) + (64 - sector(cell)) % 64
     } else {
         cell
     }

@@ -29,8 +29,8 @@ pub trait AnyBook {
 }
 
 /// The lorry's number of a unit's cell, for the baselines: on a mirrored unit sector s is sector (64 - s) mod 64, in the same ring.
-pub fn lorry_cell(mounting: u8, cell: u16) -> u16 {
-    if mounting != Mounting::Mirrored.number() {
+pub const fn lorry_cell(mounting: u8, cell: u16) -> u16 {
+    if mounting != Mounting::Mirrored as u8 {
         return cell;
     }
     let sector = cell % 64;
@@ -115,7 +115,7 @@ fn smallest((first, end): (u16, u16), mut lights: impl FnMut(u16) -> bool) -> Op
 mod tests {
     use super::*;
 
-    /// The workloads have plain units alone, so this is where it would show.
+    /// Every cell: the workloads need not have all.
     #[test]
     fn cells_are_mirrored_as_the_library_does() {
         for mounting in [Mounting::Plain, Mounting::Mirrored] {

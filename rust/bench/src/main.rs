@@ -4,6 +4,7 @@
 
 mod agreement;
 mod any_book;
+mod cells;
 mod clocks;
 mod components;
 mod contenders;
@@ -24,7 +25,7 @@ mod window;
 mod workload;
 
 use contenders::Contender;
-use scenes::{deep_crossing, dense, file, lidar, long_chain};
+use scenes::{deep_crossing, dense, file, lidar, long_chain, mirrored};
 use workload::Workload;
 
 fn main() {
@@ -83,6 +84,13 @@ fn report(contenders: &[Contender], workloads: &[Workload]) {
         ("dense, 8,000 records", file(&file_of_dense, 8_000)),
     ];
     report::print_file_growth(&files);
+
+    println!("\n## Cells of a mirrored unit\n");
+    report::print_cells();
+    println!();
+    let mirrored = [mirrored(lidar(8, 80))];
+    report::compare(contenders, &mirrored);
+    report::print_ratios(contenders, &mirrored, &[]);
 
     println!("\n## Stack of each call\n");
     report::print_stacks();

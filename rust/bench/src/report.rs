@@ -1,9 +1,10 @@
 //! What is measured for each table, and its rows.
 
+use crate::cells;
 use crate::contenders::{Contender, METHODS};
 use crate::stack::LEAST;
 use crate::stacks;
-use crate::table::{print, ratio, whole};
+use crate::table::{print, three_digits, whole};
 use crate::timing::{least_times, per_call};
 use crate::whole_files::{text_of, Named, WHOLES};
 use crate::workload::{Kind, Workload, KINDS};
@@ -97,7 +98,7 @@ fn ratio_row(
     let library = times[0]?;
     let mut row = vec![workload.to_string(), call.to_string(), whole(library)];
     for time in &times[1..] {
-        row.push(time.map_or("-".to_string(), |time| ratio(library / time)));
+        row.push(time.map_or("-".to_string(), |time| three_digits(library / time)));
     }
     row.push(quickest(contenders, times).to_string());
     Some(row)
@@ -147,9 +148,24 @@ pub fn print_file_growth(files: &[Named]) {
 
 fn growth_cell(times: &[Option<f64>]) -> String {
     match (times[0], times[1]) {
-        (Some(library), Some(same)) => format!("{} ({})", whole(library), ratio(library / same)),
+        (Some(library), Some(same)) => {
+            format!("{} ({})", whole(library), three_digits(library / same))
+        }
         _ => "-".to_string(),
     }
+}
+
+/// The call for one cell of a mirrored unit: the library's time over everyone else's.
+pub fn print_cells() {
+    let times = cells::times();
+    let (library, others) = (times[0].1, &times[1..]);
+    let mut head = vec!["call", "library, ns"];
+    let mut row = vec!["lorry_cell, mirrored".to_string(), three_digits(library)];
+    for (name, time) in others {
+        head.push(name);
+        row.push(three_digits(library / time));
+    }
+    print(&head, 1, &[row]);
 }
 
 pub fn print_stacks() {
@@ -168,12 +184,13 @@ pub fn print_stacks() {
 #[cfg(test)]
 mod tests {
     use crate::contenders;
-    use crate::scenes::{deep_crossing, dense, lidar, long_chain};
+    use crate::scenes::{deep_crossing, dense, lidar, long_chain, mirrored};
 
     #[test]
     fn all_give_the_answers_of_the_library() {
         let workloads = [
             lidar(3, 20),
+            mirrored(lidar(3, 20)),
             dense(1, 40),
             dense(4, 256),
             long_chain(300),

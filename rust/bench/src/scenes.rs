@@ -3,6 +3,7 @@
 use crate::script::{for_oracle, Script};
 use crate::table::whole;
 use crate::workload::{Calls, Pair, Workload};
+use kerb::Mounting;
 use oracle::Record;
 use streams::files::file_of;
 use streams::Dice;
@@ -80,6 +81,29 @@ pub fn deep_crossing(cells: usize) -> Workload {
     script.spread(8, 2, &pairs(0));
     script.ask_ends(cells[0], cells[cells.len() - 1]);
     script.workload
+}
+
+/// A workload as a mirrored unit would send it: all that the lorry sees is the same. The links alone are timed; what else there is takes
+/// no cell of the unit.
+pub fn mirrored(mut workload: Workload) -> Workload {
+    workload.name += ", mirrored";
+    workload.settings.mounting = Mounting::Mirrored;
+    for batch in &mut workload.batches {
+        if let Calls::Links(_, pairs) = &mut batch.calls {
+            for (one, other) in pairs {
+                *one = mirrored_cell(*one);
+                *other = mirrored_cell(*other);
+            }
+        } else {
+            batch.kind = None;
+        }
+    }
+    workload
+}
+
+/// From the lorry's number to the unit's; mirroring twice changes nothing.
+fn mirrored_cell(cell: u16) -> u16 {
+    oracle::mirrored(u32::from(cell)) as u16
 }
 
 /// The first links of a workload as a link file.

@@ -5,7 +5,7 @@ use crate::library::Library;
 use crate::scenes::{deep_crossing, dense, file, long_chain};
 use crate::stack::used;
 use crate::workload::{Calls, Pair, Workload};
-use kerb::{Mounting, RawBook, Settings, UnitCell};
+use kerb::{LorryCell, Mounting, RawBook, Settings, UnitCell};
 use kerb::{CHAIN_PLACES, LISTING_BYTES, LOG_PLACES, TEXT_BYTES};
 use oracle::{LONGEST_FILE, MOST_RECORDS, TAIL_BYTES};
 use std::hint::black_box;
@@ -140,10 +140,15 @@ fn files(stacks: &mut Vec<Stack>) {
         book.play(&file).expect("a good file");
     });
     stacks.push(("play, 8,000 records", playing));
-    let cells = used(|| {
+    let small = used(|| {
         black_box(kerb::pack(black_box(1), UnitCell(2), UnitCell(3)));
         black_box(kerb::unpack(&file, black_box(7)).expect("a record"));
         black_box((book.open_slide(), book.slide_ticks(black_box(2))));
     });
-    stacks.push(("pack, unpack, open slide, slide ticks", cells));
+    stacks.push(("pack, unpack, open slide, slide ticks", small));
+    let cells = used(|| {
+        black_box(UnitCell(black_box(5)).to_lorry(Mounting::Mirrored));
+        black_box(LorryCell(black_box(5)).to_unit(Mounting::Mirrored));
+    });
+    stacks.push(("lorry_cell, unit_cell, mirrored", cells));
 }

@@ -31,13 +31,13 @@ pub fn whole(number: f64) -> String {
     text
 }
 
-/// A ratio, to about three digits.
-pub fn ratio(ratio: f64) -> String {
-    if ratio < 9.995 {
-        format!("{ratio:.2}")
-    } else if ratio < 99.95 {
-        format!("{ratio:.1}")
+/// A number to about three digits, as ratios are.
+pub fn three_digits(number: f64) -> String {
+    if number < 9.995 {
+        format!("{number:.2}")
+    } else if number < 99.95 {
+        format!("{number:.1}")
     } else {
-        whole(ratio)
+        whole(number)
     }
 }

@@ -6,7 +6,7 @@ use crate::lamps::lamps;
 use crate::recording::Recording;
 use crate::trouble::{About, Refused, Trouble};
 use crate::{json, standard, text, words};
-use kerb::{Mounting, Refusal};
+use kerb::{LorryCell, Mounting, Refusal, UnitCell};
 use std::fs::File;
 use std::io::{self, IsTerminal, Read};
 
@@ -67,6 +67,14 @@ pub fn answer(Request { question, as_json }: Request) -> Result<Answer, Trouble>
             let mountings = mountings(number, mounting).map_err(refused(as_json))?;
             let said = if as_json { json::cell } else { words::cell };
             Ok(Answer::of(said(number, &mountings)))
+        }
+        Question::MirrorTable => {
+            let said = if as_json {
+                json::mirror_table
+            } else {
+                words::mirror_table
+            };
+            Ok(Answer::of(said(&mirror_table())))
         }
         Question::ToFile {
             input,
@@ -138,6 +146,14 @@ fn mountings(number: u16, mounting: Option<u8>) -> Result<Vec<Mounting>, Refused
         None => Ok(vec![Mounting::Plain, Mounting::Mirrored]),
         Some(mounting) => Ok(vec![Mounting::try_from(mounting).map_err(refused)?]),
     }
+}
+
+/// Each cell of a mirrored unit, and which of the lorry it is.
+fn mirror_table() -> Vec<(UnitCell, LorryCell)> {
+    let cells = (0..kerb::CELLS as u16).map(UnitCell);
+    cells
+        .map(|cell| (cell, cell.to_lorry(Mounting::Mirrored)))
+        .collect()
 }
 
 /// The mask of the bodywork, whose list may be in a file.

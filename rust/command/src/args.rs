@@ -63,6 +63,7 @@ pub enum Question {
         /// The number of a mounting, whether or not there is such a one.
         mounting: Option<u8>,
     },
+    MirrorTable,
     ToFile {
         input: Input,
         /// Whether or not they are within their values.
@@ -76,7 +77,7 @@ pub enum Question {
 }
 
 /// The commands whose answers can be had as JSON.
-const ANSWERS: &[&str] = &["list", "why", "groups", "lamps", "cell"];
+const ANSWERS: &[&str] = &["list", "why", "groups", "lamps", "cell", "mirror-table"];
 
 /// The words of a command line, options apart from the rest.
 #[derive(Default)]
@@ -102,7 +103,7 @@ pub fn parse(words: impl Iterator<Item = OsString>) -> Result<Request, Trouble> 
     } else if words.plain.is_empty() {
         if !words.help {
             return Err(wrong(
-                "which command? list, why, groups, lamps, cell, to-file, to-text or help",
+                "which command? list, why, groups, lamps, cell, mirror-table, to-file, to-text or help",
             ));
         }
         Question::Help(help::ALL)
@@ -166,6 +167,10 @@ fn question(command: &OsStr, mut words: Words) -> Result<Question, Trouble> {
                 mounting: words.mounting.map(mounting).transpose()?,
             })
         }
+        "mirror-table" if plain.is_empty() => Ok(Question::MirrorTable),
+        "mirror-table" => Err(wrong(
+            "mirror-table prints all cells and takes none; kerb cell N tells of one",
+        )),
         "to-file" => Ok(Question::ToFile {
             input: only_input(name, plain)?,
             settings: settings(words.n, words.b, words.mounting, words.t0)?,

@@ -10,6 +10,7 @@ pub fn of(name: &OsStr) -> Option<(&'static str, &'static str)> {
         ("groups", GROUPS),
         ("lamps", LAMPS),
         ("cell", CELL),
+        ("mirror-table", MIRROR_TABLE),
         ("to-file", TO_FILE),
         ("to-text", TO_TEXT),
         ("help", ALL),
@@ -25,6 +26,7 @@ kerb: ask a recording (a link file) what the panel saw as one thing, and why
   kerb groups [FILE]                   each group with all its cells, and until when it holds
   kerb lamps [FILE] --body LIST        which lamp is lit, by which cell; what keeps a dark one dark
   kerb cell N                          ring and sector of a cell, the unit's and the lorry's number
+  kerb mirror-table                    all cells of a mirrored unit, and which of the lorry they are
   kerb to-file SETTINGS [TEXT]         a text list of links brought into a link file
   kerb to-text [FILE]                  a link file put out as a text list, with its settings
   kerb help [COMMAND]                  this page, or that of a command
@@ -35,7 +37,7 @@ kerb: ask a recording (a link file) what the panel saw as one thing, and why
   --mounting M     cell, to-file: how the unit is fitted, 1 (plain) or 2 (mirrored)
   --n, --b, --t0   to-file: the other settings; all four are wanted
   -o FILE          to-file, to-text: the file to write, whole or not at all
-  --json           list, why, groups, lamps, cell: the answer as one line of JSON
+  --json           list, why, groups, lamps, cell, mirror-table: the answer as one line of JSON
 
 No FILE or TEXT, or -, is standard input. Cells are numbered as the lorry has them, in text lists
 as the unit has them.
@@ -110,6 +112,16 @@ is. M is 1 (plain) or 2 (mirrored). No mounting is the default: without one both
 On a mirrored unit sector s of the unit is sector (64 - s) mod 64 of the lorry, in the same ring: 0, dead
 ahead, and 32, dead astern, stay. Recordings hold the unit's numbers, so one from before 0.2.2, when the
 rule was 63 - s, shows the corrected cells when it is played again.
+";
+
+const MIRROR_TABLE: &str = "\
+kerb mirror-table [--json]
+
+Prints all cells of a mirrored unit, a line each: the unit's number with its ring and sector, and the lorry's
+number of that cell with its ring and sector. Each ring stands by itself, 64 lines under a heading.
+
+Mirroring twice changes nothing, so the table can be read either way: where the unit's 1 is the lorry's 63,
+the unit's 63 is the lorry's 1. A plain unit needs no table: its numbers are the lorry's.
 ";
 
 const TO_FILE: &str = "\

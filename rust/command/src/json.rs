@@ -184,15 +184,34 @@ pub fn cell(number: u16, mountings: &[Mounting]) -> String {
     Json::Object(fields).line()
 }
 
+pub fn mirror_table(cells: &[(UnitCell, LorryCell)]) -> String {
+    let pair = |&(unit, lorry): &(UnitCell, LorryCell)| {
+        let of_unit = numbered(unit.0, unit.ring(), unit.sector());
+        Json::Object(vec![
+            ("unit", Json::Object(of_unit)),
+            ("lorry", Json::Object(place(lorry))),
+        ])
+    };
+    let fields = vec![
+        ("mounting", Json::from(Mounting::Mirrored.number())),
+        ("cells", Json::list(cells.iter().map(pair))),
+    ];
+    Json::Object(fields).line()
+}
+
 fn numbers(cells: impl Iterator<Item = LorryCell>) -> Json {
     Json::list(cells.map(|cell| Json::from(cell.0)))
 }
 
 fn place(cell: LorryCell) -> Fields {
+    numbered(cell.0, cell.ring(), cell.sector())
+}
+
+fn numbered(cell: u16, ring: u16, sector: u16) -> Fields {
     vec![
-        ("cell", Json::from(cell.0)),
-        ("ring", Json::from(cell.ring())),
-        ("sector", Json::from(cell.sector())),
+        ("cell", Json::from(cell)),
+        ("ring", Json::from(ring)),
+        ("sector", Json::from(sector)),
     ]
 }
 

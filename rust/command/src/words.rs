@@ -160,6 +160,27 @@ pub fn cell(number: u16, mountings: &[Mounting]) -> String {
     text
 }
 
+/// A line for each cell, and the rings apart, each under its own heading.
+pub fn mirror_table(cells: &[(UnitCell, LorryCell)]) -> String {
+    const HEADING: &str = "unit's cell  ring  sector  lorry's cell  ring  sector\n";
+    let line = |&(unit, lorry): &(UnitCell, LorryCell)| {
+        format!(
+            "{:>11}{:>6}{:>8}{:>14}{:>6}{:>8}\n",
+            unit.0,
+            unit.ring(),
+            unit.sector(),
+            lorry.0,
+            lorry.ring(),
+            lorry.sector()
+        )
+    };
+    let rings = cells.chunk_by(|(one, _), (next, _)| one.ring() == next.ring());
+    let rings: Vec<String> = rings
+        .map(|ring| HEADING.to_string() + &ring.iter().map(line).collect::<String>())
+        .collect();
+    rings.join("\n")
+}
+
 fn name(mounting: Mounting) -> &'static str {
     match mounting {
         Mounting::Plain => "plain",

@@ -214,6 +214,65 @@ fn cell_tells_ring_sector_and_both_numbers() {
     }
 }
 
+/// A cell, its ring and its sector.
+type Place = [u64; 3];
+
+/// Every cell of a mirrored unit and of the lorry, by the independent program's rule.
+fn mirrored_places() -> Vec<(Place, Place)> {
+    let place = |cell: u32| [cell, cell / oracle::SECTORS, cell % oracle::SECTORS].map(u64::from);
+    let cells = 0..oracle::CELLS;
+    cells
+        .map(|cell| (place(cell), place(oracle::mirrored(cell))))
+        .collect()
+}
+
+#[test]
+fn mirror_table_prints_every_cell_by_the_oracles_rule() {
+    let ran = kerb(&["mirror-table"]);
+    assert_eq!((ran.status, ran.err.as_str()), (0, ""));
+    let rings: Vec<&str> = ran.out.split("\n\n").collect();
+    assert_eq!(rings.len() as u32, oracle::RINGS);
+    let mut printed = Vec::new();
+    for ring in rings {
+        let (heading, lines) = ring.split_once('\n').expect("a heading");
+        assert_eq!(
+            heading,
+            "unit's cell  ring  sector  lorry's cell  ring  sector"
+        );
+        let before = printed.len();
+        for line in lines.lines() {
+            assert_eq!(line.len(), heading.len(), "{line}");
+            let numbers: Vec<u64> = line
+                .split_whitespace()
+                .map(|word| word.parse().expect("a number"))
+                .collect();
+            let [cell, ring, sector, lorry, on_ring, at_sector] = numbers[..] else {
+                panic!("not six numbers: {line}");
+            };
+            printed.push(([cell, ring, sector], [lorry, on_ring, at_sector]));
+        }
+        assert_eq!((printed.len() - before) as u32, oracle::SECTORS);
+    }
+    assert_eq!(printed, mirrored_places());
+}
+
+#[test]
+fn mirror_table_is_json_too() {
+    let object = |[cell, ring, sector]: Place| {
+        format!("{{\"cell\":{cell},\"ring\":{ring},\"sector\":{sector}}}")
+    };
+    let pair = |(unit, lorry): (Place, Place)| {
+        format!("{{\"unit\":{},\"lorry\":{}}}", object(unit), object(lorry))
+    };
+    let pairs: Vec<String> = mirrored_places().into_iter().map(pair).collect();
+    let ran = kerb(&["mirror-table", "--json"]);
+    assert_eq!((ran.status, ran.err.as_str()), (0, ""));
+    assert_eq!(
+        ran.out,
+        format!("{{\"mounting\":2,\"cells\":[{}]}}\n", pairs.join(","))
+    );
+}
+
 #[test]
 fn standard_input_is_a_dash_or_no_file() {
     let file = std::fs::read(root().join(LIFT)).expect("the sample");
@@ -232,7 +291,14 @@ fn help_and_version_are_answers() {
     assert_eq!((all.status, all.err.as_str()), (0, ""));
     assert_eq!(kerb(&["--help"]).out, all.out);
     for command in [
-        "list", "why", "groups", "lamps", "cell", "to-file", "to-text",
+        "list",
+        "why",
+        "groups",
+        "lamps",
+        "cell",
+        "mirror-table",
+        "to-file",
+        "to-text",
     ] {
         assert!(all.out.contains(&format!("  kerb {command} ")), "{command}");
         let help = kerb(&["help", command]);

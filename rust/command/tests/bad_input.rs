@@ -41,6 +41,11 @@ fn wrong_use_is_status_3() {
         (&["why", LIFT], "why wants two cells"),
         (&["cell"], "cell wants one number"),
         (&["cell", "1", "2"], "cell wants one number"),
+        (&["mirror-table", "5"], "kerb cell N tells of one"),
+        (
+            &["mirror-table", "--mounting", "1"],
+            "mirror-table takes no --mounting",
+        ),
     ] {
         complains(&kerb(args), 3, words);
     }
@@ -273,6 +278,7 @@ fn what_cannot_be_written_is_status_3() {
         &["groups", LIFT],
         &["lamps", LIFT, "--body", "94-96"],
         &["cell", "5"],
+        &["mirror-table"],
         &["to-text", LIFT],
         &["help"],
         &["--version"],

@@ -24,11 +24,15 @@ pub(crate) fn both_are_cells(first: u32, second: u32) -> Result<(), Refusal> {
     refuse_if(!is_cell(first) || !is_cell(second), Refusal::Cell)
 }
 
-/// Sector s becomes sector (64 - s) mod 64, in the same ring.
+/// Sector s becomes sector (64 - s) mod 64, in the same ring: 0 stays, and any
+/// other is as far before the ring's end as it was after its start.
 pub fn mirrored(cell: u32) -> u32 {
-    let ring = cell / SECTORS;
-    let sector = cell % SECTORS;
-    SECTORS * ring + (SECTORS - sector) % SECTORS
+    let (ring, sector) = (cell / SECTORS, cell % SECTORS);
+    if sector == 0 {
+        cell
+    } else {
+        SECTORS * (ring + 1) - sector
+    }
 }
 
 /// The lorry's number of a cell that came in the unit's numbers.
@@ -77,9 +81,8 @@ mod tests {
     #[test]
     fn the_mirror_rule_at_every_cell() {
         for ring in 0..16 {
-            assert_eq!(mirrored(64 * ring), 64 * ring);
-            for s in 1..64 {
-                assert_eq!(mirrored(64 * ring + s), 64 * ring + (64 - s));
+            for s in 0..64 {
+                assert_eq!(mirrored(64 * ring + s), 64 * ring + (64 - s) % 64);
             }
         }
     }

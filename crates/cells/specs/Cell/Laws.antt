@@ -4,7 +4,7 @@
 -- and it leaves just the axis as it is (`rule-axis`). The last two look at sector 0, which stays, and at any other s, which
 -- becomes the number of sectors less s. A mirrored cell then has the ring it had and the mirrored sector, which is all that
 -- there is to know of a cell.
-use Prim.Native.Nat.{ℕ, _+_, _-_, _≤_, _<_}
+use Prim.Native.Nat.{ℕ, _+_, _-_, _%_, _≤_, _<_}
 use mathlib.Core.Path.{_≡_, _∙_, refl, sym, ap}
 use mathlib.Core.Bool.{true, false, cond}
 use mathlib.Core.List.{[], _∷_, map}
@@ -70,6 +70,11 @@ module _ (sectors : ℕ) where
     mirror-at : mirrorOver sectors c ≡ cellAt sectors (ringOf sectors c) (mirrorSector sectors (sectorOf sectors c))
     unfolding mirrorOver
     mirror-at = simp (lt-ltb _ _ h)
+
+    -- its number, worked out
+    pub mirror-number : mirrorOver sectors c ≡ cellAt sectors (ringOf sectors c) ((sectors - sectorOf sectors c) % sectors)
+    unfolding mirrorSector
+    mirror-number = mirror-at
 
     -- in the same ring
     pub mirror-ring : ringOf sectors (mirrorOver sectors c) ≡ ringOf sectors c
