@@ -3,7 +3,7 @@
 use crate::script::{for_oracle, Script};
 use crate::table::whole;
 use crate::workload::{Calls, Pair, Workload};
-use kerb::Mounting;
+use kerb::{LorryCell, Mounting};
 use oracle::Record;
 use streams::files::file_of;
 use streams::Dice;
@@ -91,8 +91,8 @@ pub fn mirrored(mut workload: Workload) -> Workload {
     for batch in &mut workload.batches {
         if let Calls::Links(_, pairs) = &mut batch.calls {
             for (one, other) in pairs {
-                *one = mirrored_cell(*one);
-                *other = mirrored_cell(*other);
+                *one = of_mirrored_unit(*one);
+                *other = of_mirrored_unit(*other);
             }
         } else {
             batch.kind = None;
@@ -101,9 +101,8 @@ pub fn mirrored(mut workload: Workload) -> Workload {
     workload
 }
 
-/// From the lorry's number to the unit's; mirroring twice changes nothing.
-fn mirrored_cell(cell: u16) -> u16 {
-    oracle::mirrored(u32::from(cell)) as u16
+fn of_mirrored_unit(cell: u16) -> u16 {
+    LorryCell(cell).to_unit(Mounting::Mirrored).0
 }
 
 /// The first links of a workload as a link file.
