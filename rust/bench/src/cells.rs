@@ -85,8 +85,10 @@ fn take_turns(least: &mut [u64; CONTENDERS.len()]) {
 
 #[cfg(test)]
 mod tests {
+    use super::*;
+
     #[test]
     fn all_have_the_cells_of_the_library() {
-        super::take_turns(&mut [0; 4]);
+        take_turns(&mut [0; CONTENDERS.len()]);
     }
 }

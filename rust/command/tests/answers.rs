@@ -215,11 +215,11 @@ fn cell_tells_ring_sector_and_both_numbers() {
 }
 
 /// A cell, its ring and its sector.
-type Place = [u64; 3];
+type Place = [u32; 3];
 
 /// Every cell of a mirrored unit and of the lorry, by the independent program's rule.
 fn mirrored_places() -> Vec<(Place, Place)> {
-    let place = |cell: u32| [cell, cell / oracle::SECTORS, cell % oracle::SECTORS].map(u64::from);
+    let place = |cell| [cell, cell / oracle::SECTORS, cell % oracle::SECTORS];
     let cells = 0..oracle::CELLS;
     cells
         .map(|cell| (place(cell), place(oracle::mirrored(cell))))
@@ -242,7 +242,7 @@ fn mirror_table_prints_every_cell_by_the_oracles_rule() {
         let before = printed.len();
         for line in lines.lines() {
             assert_eq!(line.len(), heading.len(), "{line}");
-            let numbers: Vec<u64> = line
+            let numbers: Vec<u32> = line
                 .split_whitespace()
                 .map(|word| word.parse().expect("a number"))
                 .collect();

@@ -71,7 +71,7 @@ module _ (sectors : ℕ) where
     unfolding mirrorOver
     mirror-at = simp (lt-ltb _ _ h)
 
-    -- its number, worked out
+    -- its number, worked out: the rule's text after all, for the one function that runs it
     pub mirror-number : mirrorOver sectors c ≡ cellAt sectors (ringOf sectors c) ((sectors - sectorOf sectors c) % sectors)
     unfolding mirrorSector
     mirror-number = mirror-at
