@@ -28,14 +28,16 @@ use Rattle.book_state.specs.Numbers.{areCells}
 use Rattle.book_joined.specs.Joined.{joinedOf}
 use Rattle.window.specs.Window.{windowLinks, linksFromLabel}
 use Rattle.window.proofs.Highest.{chained-highest, highest-chained, highest-most}
-use Rattle.chain.specs.Chain.{ChainOutcome, chainPlaces, labelOf, chainCells, chainNumber, chainByNumber, chainOf}
+use Rattle.chain.specs.Chain.{ChainOutcome, chainPlaces, labelOf, chainCells, chainNumber, chainByNumber}
 use Rattle.demands.specs.History.{clock, History, openSlideIn, windowOf, linksSince, numberIn, added, addedByNumber}
 use Rattle.demands.specs.Implementation.{ours, State, stateOf, gives, after, givesChain}
 use Rattle.demands.specs.Demands.{ChainGiven, DifferentCells, Itself, Answers, Chain}
 use Rattle.demands.specs.Agrees.{Agrees}
 use Rattle.demands.proofs.Lists.{same-test}
 use Rattle.numbers.proofs.Checks.{first-last, passes}
-use Rattle.demands.proofs.NoEight.{four-checks, chain-gives, no-eight}
+use Rattle.demands.proofs.NumbersAgree.{chain-gives}
+use Rattle.demands.proofs.ChainFits.{chain-done, fits}
+use Rattle.demands.proofs.NoEight.{four-checks, no-eight}
 use Rattle.demands.proofs.InOrder.{agrees-in-order}
 use Rattle.demands.proofs.Keeps.{step, keeps}
 use Rattle.demands.proofs.Closings.{closed, window-then, closed-now, closed-fewer, closed-since}
@@ -166,9 +168,9 @@ module _ {h : History} {s : State} (agrees : Agrees h s) (one other : ℕ) where
           chain = path ++ drop (length path) chain;
         }
 
-    chain-done : givesChain ours s chain one other .answer .number ≡ 0 → givesChain ours s chain one other ≡ given
-    unfolding chainOf chainByNumber
-    chain-done e = ap (λ k. chainByNumber k (s .book .clock) (s .book .counts) (s .log) chain one other) (sym (chain-gives s chain one other) ∙ e) ∙ rw (agrees .clock)
+    chain-given : givesChain ours s chain one other .answer .number ≡ 0 → givesChain ours s chain one other ≡ given
+    unfolding chainByNumber
+    chain-given e = chain-done s chain one other e ∙ rw (agrees .clock)
 
     -- ---- where it gives 0
 
@@ -227,7 +229,7 @@ module _ {h : History} {s : State} (agrees : Agrees h s) (one other : ℕ) where
 
       number-is : number ≡ unless (chains (windowOf h) one other) 7
       unfolding firstOf
-      number-is = chain-gives s chain one other ∙ chain-number ∙ rw (places, are) (first-last _)
+      number-is = chain-gives (s .book) (s .log) chain one other ∙ chain-number ∙ rw (places, are) (first-last _)
 
       done : (number ≡ 0) ↔ Chained (windowOf h) one other
       done = rw number-is (go (chains (windowOf h) one other) refl)
@@ -252,9 +254,9 @@ module _ {h : History} {s : State} (agrees : Agrees h s) (one other : ℕ) where
             no-trail = no-trail;
             done = done;
             joins = (λ y. done .1 (joined-window agrees one other are .0 y), λ e. joined-window agrees one other are .1 (done .0 e));
-            handed = λ e. rw (chain-done e) (given-handed (positive e));
-            different = λ e different. rw (chain-done e) (given-apart are (positive e) different);
-            itself = λ e. rw (chain-done (done .1 (same e))) (given-itself e);
+            handed = λ e. rw (chain-given e) (given-handed (positive e));
+            different = λ e different. rw (chain-given e) (given-apart are (positive e) different);
+            itself = λ e. rw (chain-given (done .1 (same e))) (given-itself e);
           }
 
 -- ---- after any calls
@@ -262,7 +264,8 @@ module _ {h : History} {s : State} (agrees : Agrees h s) (one other : ℕ) where
 pub chain : Chain ours
 chain =
     record {
-      number = λ s cs h told chain one other. chain-gives (after ours s cs) chain one other ∙ chain-number (keeps s cs h told) one other chain;
+      number = λ s cs h told chain one other. chain-gives (after ours s cs .book) (after ours s cs .log) chain one other ∙ chain-number (keeps s cs h told) one other chain;
       never-8 = no-eight;
+      fits = fits;
       answers = λ s cs h told chain places one other are. answers (keeps s cs h told) one other chain places are;
     }

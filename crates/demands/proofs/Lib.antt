@@ -1,4 +1,5 @@
 pub mod BySlide
+pub mod ChainFits
 pub mod ChainIs
 pub mod ChunkEnds
 pub mod Closings

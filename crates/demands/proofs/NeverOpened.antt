@@ -21,8 +21,7 @@ use Rattle.file_play.specs.Play.{playFrom, playByNumber, recordGives}
 use Rattle.groups.specs.Call.{groupsNumberIn}
 use Rattle.lamps.specs.Lamps.{lampsNumberIn}
 use Rattle.demands.specs.Demands.{NeverOpened}
-use Rattle.demands.proofs.NumbersAgree.{link-gives, clock-gives, joined-gives}
-use Rattle.demands.proofs.NoEight.{chain-gives}
+use Rattle.demands.proofs.NumbersAgree.{link-gives, clock-gives, joined-gives, chain-gives}
 use Rattle.demands.proofs.FilesRefused.{groups-gives, play-read}
 use Rattle.demands.proofs.LampsAre.{lamps-gives}
 
@@ -51,7 +50,7 @@ never-opened =
       link = λ log tick one other. link-gives _ _ _ _ _ ∙ never-link log tick one other;
       clock = λ log tick. clock-gives _ _ _ ∙ never-clock log tick;
       joined = λ one other. joined-gives _ _ _ ∙ never-joined one other;
-      chain = λ log chain one other. chain-gives (record { book = neverOpened; log = log }) chain one other ∙ never-chain log chain one other;
+      chain = λ log chain one other. chain-gives neverOpened log chain one other ∙ never-chain log chain one other;
       groups = λ log first size hold. groups-gives _ _ _ _ _ ∙ never-groups log first size hold;
       lamps = λ log mask. lamps-gives _ _ _ ∙ never-lamps log mask;
       play = λ file log e. play-read file neverOpened log e ∙ never-play file (readOf file .m) log;

@@ -24,6 +24,7 @@ use Rattle.numbers.specs.Checks.{firstOf, unless}
 use Rattle.book_state.specs.Numbers.{areCells}
 use Rattle.book_joined.specs.Joined.{joinedNumber, joinedByNumber, joinedOf}
 use Rattle.book.specs.Calls.{openingNumber, openingByNumber, openingOf, linkNumber, linkStored, linkByNumber, linkOf, clockNumber, clockByNumber, clockOf}
+use Rattle.chain.specs.Chain.{chainNumber, chainByNumber, chainOf}
 use Rattle.demands.specs.History.{Call, opening, link, clock, History, chunkIn, howMany, slideLinks, numberIn}
 use Rattle.demands.specs.Implementation.{ours, State, gives}
 use Rattle.demands.specs.Demands.{roomIn}
@@ -54,6 +55,11 @@ clock-gives b log tick = itself (λ k. clockByNumber k b log tick .number) refl 
 pub joined-gives : (b : Book) (one other : ℕ) → joinedOf b one other .number ≡ joinedNumber b one other
 unfolding joinedOf joinedByNumber
 joined-gives b one other = itself (λ k. joinedByNumber k b one other .number) refl (λ k. refl) _
+
+pub chain-gives : (b : Book) (log chain : List ℕ) (one other : ℕ) → chainOf b log chain one other .answer .number ≡ chainNumber b log chain one other
+unfolding chainOf chainByNumber
+chain-gives b log chain one other =
+    itself (λ k. chainByNumber k (b .clock) (b .counts) log chain one other .answer .number) refl (λ k. refl) _
 
 module _ {h : History} {s : State} (a : Agrees h s) where
   -- ---- how many links a slide holds

@@ -10,7 +10,7 @@ use lib.Dec.{eqb}
 use lib.ListN.{length, getD, take, drop}
 use Rattle.numbers.specs.Kinds.{Bytes, Cell, Log}
 use Rattle.graph.specs.Link.{Linked, Chained, chains}
-use Rattle.graph.specs.Trail.{Best}
+use Rattle.graph.specs.Trail.{Best, NoneTwice}
 use Rattle.graph.specs.Forest.{Forest, forestOf, walk, walkAt, parentAt}
 use Rattle.settings.specs.Settings.{takenNumber}
 use Rattle.settings.specs.declared.Settings.{Settings}
@@ -187,6 +187,14 @@ pub record ChainGiven (h : History) (chain : List ℕ) (one other : ℕ) (o : Ch
   pub rest : drop (o .answer .cells) (o .chain) ≡ drop (o .answer .cells) chain
   pub hold : o .answer .hold + openSlideIn h + 1 ≡ o .answer .newest + h .clock .n
 
+-- whatever the book and the log are, altered ones too, a chain that is handed back has 1 to 1,024 cells, stands at the front of the
+-- buffer, and holds no cell twice (RULES 5.11)
+pub record Fits (o : ChainOutcome) : Type 0 where
+  pub some : 1 ≤ o .answer .cells
+  pub few : o .answer .cells ≤ cells
+  pub long : length (take (o .answer .cells) (o .chain)) ≡ o .answer .cells
+  pub once : NoneTwice (take (o .answer .cells) (o .chain))
+
 -- two different cells: L is the largest slide such that links of slides L to k chain them (RULES 5.1), and the two stay joined for
 -- as many further closings as the hold says if nothing is logged, and not for one more (RULES 5.5, 5.7)
 pub record DifferentCells (p : Implementation) (s : State) (h : History) (one other : ℕ) (answer : ChainAnswer) : Type 0 where
@@ -226,6 +234,7 @@ pub record Chain (p : Implementation) : Type 0 where
       ∷ unless (chains (windowOf h) one other) 7
       ∷ [])
   pub never-8 : (s : State) (chain : List ℕ) (one other : ℕ) → givesChain p s chain one other .answer .number ≡ 8 → ⊥
+  pub fits : (s : State) (chain : List ℕ) (one other : ℕ) → givesChain p s chain one other .answer .number ≡ 0 → Fits (givesChain p s chain one other)
   pub answers : AfterCalls p λ s h. (chain : List ℕ) → has chainPlaces chain ≡ true → (one other : ℕ) → areCells one other ≡ true →
       Answers p s h chain one other (givesChain p s chain one other)
 

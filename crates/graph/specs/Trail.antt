@@ -1,5 +1,5 @@
 -- Trails (RULES 5): lists of cells, each neighbouring two linked; the one with the fewest links
--- that comes first by cell numbers (`Best`), and a finder of it (`trailOf`).
+-- that comes first by cell numbers (`Best`), and a finder of it (`trailOf`). And lists that hold no cell twice.
 --
 -- The finder rests on `fewestLinks`, which grows with the list of links: a shortest trail passes a further link not at
 -- all, or once, in one of its two directions.
@@ -9,7 +9,7 @@ use mathlib.Core.Bool.{Bool, true, false, cond}
 use mathlib.Core.List.{List, [], _∷_}
 use mathlib.Core.Option.{Option, none, some}
 use lib.Dec.{eqb}
-use lib.ListN.{length}
+use lib.ListN.{length, getD}
 use Rattle.numbers.specs.Kinds.{Cell}
 use Rattle.graph.specs.Link.{Link, Linked}
 
@@ -29,6 +29,10 @@ pub record Best (ls : List Link) (a b : ℕ) (cs : List ℕ) : Type 0 where
   pub trail : Trail ls b a cs
   pub fewest : (ds : List ℕ) → Trail ls b a ds → length cs ≤ length ds
   pub first : (ds : List ℕ) → Trail ls b a ds → length ds ≡ length cs → First cs ds
+
+-- no cell stands in the list twice: any two places hold different cells
+abbrev pub NoneTwice : (cells : List Cell) → Type 0
+NoneTwice cs = (i j : ℕ) → i < j → j < length cs → getD cs i 0 ≡ getD cs j 0 → ⊥
 
 -- the smaller of two numbers, of which either may be missing
 unfoldable pub smaller : Option ℕ → Option ℕ → Option ℕ

@@ -23,11 +23,11 @@ use Rattle.demands.specs.Agrees.{Agrees}
 use Rattle.demands.specs.Demands.{Stopped}
 use Rattle.demands.proofs.Refused.{refused}
 use Rattle.demands.proofs.FilesRefused.{read-gives, groups-gives, list-gives, unpack-gives, play-read, files-refused}
-use Rattle.demands.proofs.NumbersAgree.{opening-gives, link-gives, clock-gives, joined-gives, number-agrees, asked-agrees}
+use Rattle.demands.proofs.NumbersAgree.{opening-gives, link-gives, clock-gives, joined-gives, chain-gives, number-agrees, asked-agrees}
 use Rattle.demands.proofs.Touching.{apart-agrees}
-use Rattle.demands.proofs.NoEight.{chain-gives}
 use Rattle.demands.proofs.Keeps.{keeps}
 use Rattle.demands.proofs.JoinedIs.{joined-window, joined-steps, joined-few}
+use Rattle.demands.proofs.ChainFits.{fits}
 use Rattle.demands.proofs.ChainIs.{answers}
 use Rattle.demands.proofs.LampsAre.{lamps-gives, lamps-number, lamps-fifteen, left-told, right-told}
 use Rattle.demands_listing.proofs.ListedCalls.{plays-told}
@@ -56,7 +56,7 @@ code-refuses =
           (clock-gives _ _ _, λ n. refused .kept (record { book = now (a .0); log = now (a .1 .0) }) (clock (a .1 .1 .0)) n .0);
       kerb-joined = demanded (code-ends .kerb-joined) λ κs a. (joined-gives _ _ _, refused .unanswered _ _ _);
       kerb-chain = demanded (code-ends .kerb-chain) λ κs a. (
-        chain-gives (record { book = now (a .0); log = now (a .1 .0) }) _ _ _,
+        chain-gives _ _ _ _ _,
         λ n. let e = refused .unchained (record { book = now (a .0); log = now (a .1 .0) }) _ _ _ n in (ap (λ o. o .answer) e, ap (λ o. o .chain) e),
       );
       kerb-groups = demanded (code-ends .kerb-groups) λ κs a. (
@@ -117,7 +117,11 @@ code-files =
     }
 
 pub code-chain : CodeChain
-code-chain = demanded (code-ends .kerb-chain) λ κs a h l places are. answers (left-agrees l) _ _ _ places are
+code-chain =
+    record {
+      answers = demanded (code-ends .kerb-chain) λ κs a h l places are. answers (left-agrees l) _ _ _ places are;
+      fits = demanded (code-ends .kerb-chain) λ κs a. fits (record { book = now (a .0); log = now (a .1 .0) }) _ _ _;
+    }
 
 pub code-lamps : CodeLamps
 code-lamps = demanded (code-ends .kerb-lamps) λ κs a h l.

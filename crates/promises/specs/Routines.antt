@@ -44,7 +44,7 @@ use Rattle.pledges.specs.Pledges.{with1, with2, with3, with4, with5, EachCall}
 use Rattle.demands.specs.History.{Call, opening, link, clock, History, numberIn, windowOf}
 use Rattle.demands.specs.Implementation.{ours, State, after}
 use Rattle.demands_listing.specs.Listed.{Plays, groupsOutcomeIn, Prints}
-use Rattle.demands.specs.Demands.{roomIn, HasHistory, Stopped, stepsIn, Answers, LampIs}
+use Rattle.demands.specs.Demands.{roomIn, HasHistory, Stopped, stepsIn, Fits, Answers, LampIs}
 
 -- 1. an exported call ends: called with anything, its code ends, touches no memory but its own and what is lent to it, and gives what
 -- the definition says
@@ -170,12 +170,12 @@ pub record CodeFiles : Type 2 where
       given .answer .number ≡ 0 → length text ≤ length (now out) → now file ≡ take (given .answer .length) (given .output) →
       (r ≡ record { length = length text; number = 0 }) × (now out′ ≡ atFront text (now out))
 
--- 3. chain (RULES 5)
-abbrev pub CodeChain : Type 2
-CodeChain =
-    CodeMeets chainCall λ κs a r e. with5 a λ book log one other chain. with5 e λ book′ log′ one′ other′ chain′.
-    (h : History) → LeftByCalls (now book) (now log) h → has chainPlaces (now chain) ≡ true → areCells one other ≡ true →
-    Answers ours (record { book = now book; log = now log }) h (now chain) one other (record { answer = r; chain = now chain′ })
+-- 3. chain (RULES 5), by the history; and that a chain fits, from an altered book and log too
+pub record CodeChain : Type 2 where
+  pub answers : CodeMeets chainCall λ κs a r e. with5 a λ book log one other chain. with5 e λ book′ log′ one′ other′ chain′.
+      (h : History) → LeftByCalls (now book) (now log) h → has chainPlaces (now chain) ≡ true → areCells one other ≡ true →
+      Answers ours (record { book = now book; log = now log }) h (now chain) one other (record { answer = r; chain = now chain′ })
+  pub fits : CodeMeets chainCall λ κs a r e. with5 e λ book′ log′ one′ other′ chain′. r .number ≡ 0 → Fits (record { answer = r; chain = now chain′ })
 
 -- both lamps (RULES 11): each is lit exactly when its zone has a cell that is an end of a link of the history's window and for which joined
 -- says no with every body cell, and tells the smallest; 15 exactly when the mask is none
