@@ -1,4 +1,4 @@
-/* All numbers that a call can give, in words; and the version. rust/kerb says the same words. */
+/* The numbers 0 to 16 in words, those that no call gives too; and the version. rust/kerb says the same words. */
 #include <stdio.h>
 
 #include "kerb.h"

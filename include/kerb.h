@@ -78,7 +78,7 @@ enum kerb_number {
     KERB_FULL = 5,        /* the link's slide already holds 256 links */
     KERB_SHORT = 6,       /* a lent buffer is too short */
     KERB_NO_TRAIL = 7,    /* no links of the window chain the two cells */
-    KERB_LONG_TRAIL = 8,  /* the chain would have more than 1,024 cells */
+    /* 8 is unassigned: no call gives it */
     KERB_LENGTH = 9,      /* the length is that of no link file, or of no records */
     KERB_LETTERS = 10,    /* the last four bytes of the file are not KERB */
     KERB_OFFSET = 11,     /* the file's offset and count do not agree with its length */
@@ -343,10 +343,10 @@ KERB_LOOK_AT struct kerb_joined_answer kerb_joined(const struct kerb_book *book,
 
 /*
  * Why the two cells are joined, IN THE LORRY'S NUMBERS, and for how long. The chain goes to the front of the buffer, from `one` to
- * `other`; later places keep what they had. `chain_places` is the number of 16-bit places of the buffer, at least
- * KERB_CHAIN_PLACES. For a cell and itself the chain is that cell, `newest` is one above the open slide and `hold` is n, read as
+ * `other`, 1 to 1,024 cells and none twice; later places keep what they had. `chain_places` is the number of 16-bit places of the
+ * buffer, at least KERB_CHAIN_PLACES. For a cell and itself the chain is that cell, `newest` is one above the open slide and `hold` is n, read as
  * "always". For two cells `hold` is 0 to n - 1.
- * Refuses, in this order: 1, 6 (the log or the buffer), 3, 7, 8 (which never comes). Stack: 50 KB.
+ * Refuses, in this order: 1, 6 (the log or the buffer), 3, 7. Stack: 50 KB.
  */
 KERB_LOOK_AT struct kerb_chain_answer kerb_chain(const struct kerb_book *book, const uint16_t *log, size_t log_places,
                                                  uint16_t one, uint16_t other, uint16_t *chain, size_t chain_places);
@@ -506,8 +506,6 @@ static inline const char *kerb_status_text(uint8_t number)
         return "a lent buffer is too short";
     case KERB_NO_TRAIL:
         return "no links of the window chain the two cells";
-    case KERB_LONG_TRAIL:
-        return "the chain would have more than 1,024 cells";
     case KERB_LENGTH:
         return "the length is that of no link file, or of no records";
     case KERB_LETTERS:

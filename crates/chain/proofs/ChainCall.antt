@@ -5,11 +5,10 @@
 use Prim.Native.Nat.{ℕ, suc, _+_, _-_, _≤_, _<_}
 use mathlib.Core.Path.{_≡_, refl, sym, ap, _∙_}
 use mathlib.Core.Bool.{true, false, _&&_}
-use mathlib.Core.List.{List, [], _∷_, map}
+use mathlib.Core.List.{List, map}
 use native.Mathlib.Omega.{arith}
 use native.Mathlib.Decide.{decLe}
 use borrow.Author.Tests.{lt-ltb, le-ltb, le-leb, lt-leb}
-use lib.Dec.{leb}
 use lib.ListN.{length, take}
 use Rattle.graph.specs.Link.{Chained}
 use Rattle.graph.specs.Forest.{Labelled}
@@ -19,9 +18,9 @@ use Rattle.slides.specs.Clock.{openSlide}
 use Rattle.slides.specs.declared.Clock.{Clock}
 use Rattle.book_state.specs.declared.Book.{Book}
 use Rattle.book_state.specs.Order.{inOrder}
-use Rattle.numbers.specs.Checks.{firstOf, unless, has}
+use Rattle.numbers.specs.Checks.{unless, has}
 use Rattle.book_state.specs.Numbers.{logPlaces, areCells}
-use Rattle.numbers.proofs.Checks.{passes, fails, last-passes, has-length}
+use Rattle.numbers.proofs.Checks.{passes, fails, first-last, has-length}
 use Rattle.window.specs.Window.{windowSlides, linksFromAge, windowLinks, linksFromLabel}
 use Rattle.window.specs.Gathered.{LinksPut}
 use Rattle.window.proofs.Gathered.{blank, Fronts, put-many, put-long, put-fronts}
@@ -30,7 +29,7 @@ use Rattle.window.proofs.WindowLinks.{window-all, window-oldest, newestLinks, n
 use Rattle.chain.specs.declared.ChainAnswer.{ChainAnswer}
 use Rattle.chain_fewest.specs.Lists.{linksOf}
 use Rattle.chain_fewest.specs.Best.{TrailAskable, TrailGiven}
-use Rattle.chain.specs.Chain.{chainPlaces, labelOf, chainCells, windowChecks, chainNumber, ChainOutcome, chainByNumber, chainOf, windowChain, GivesChain, ChecksPassed}
+use Rattle.chain.specs.Chain.{chainPlaces, labelOf, chainCells, trailNumber, chainNumber, ChainOutcome, chainByNumber, chainOf, windowChain, GivesChain, ChecksPassed}
 use Rattle.chain.proofs.Sides.{front-links, front-asked}
 
 abbrev pub refusal : ℕ → ChainAnswer
@@ -78,8 +77,8 @@ module _ (b : Book) (log chain : List ℕ) (one other : ℕ) where
         unfolding chainNumber chainOf
         call-answered are given = rw left given
           where
-            left : chainNumber b log chain one other ≡ firstOf (windowChecks (b .clock) (b .counts) log one other)
-            left = passes 1 _ e ∙ passes 6 _ both-rooms ∙ passes 3 _ are
+            left : chainNumber b log chain one other ≡ trailNumber (b .clock) (b .counts) log one other
+            left = passes 1 _ e ∙ passes 6 _ both-rooms ∙ passes 3 _ are ∙ first-last _
 
 -- ---- an answerable call
 
@@ -96,35 +95,23 @@ module _ {clock : Clock} {counts log chain : List ℕ} {one other : ℕ} (a : Ch
   abbrev outcome : ChainOutcome
   outcome = windowChain clock counts log chain one other
 
-  abbrev number : ℕ
-  number = firstOf (windowChecks clock counts log one other)
-
   module _ {j : ℕ} (is : j ≡ label) where
     -- 7
     pub unjoined : {r : ChainAnswer} → j ≡ 0 → r ≡ refusal 7 → GivesChain outcome r chain
-    unjoined e same = refuses clock counts log chain one other (fails 6 _ (le-ltb 0 label (omega arith))) same refl
+    unjoined e same = refuses clock counts log chain one other (ap (λ t. unless t 7) (le-ltb 0 label (omega arith))) same refl
 
     pub label-few : j ≤ suc (clock .n)
     label-few = rw is (highest-most links one other (suc (clock .n)))
 
     module _ (joined : 0 < j) where
-      passed : number ≡ firstOf (unless (leb (length path) 1024) 8 ∷ [])
-      passed = passes 7 _ (lt-ltb 0 label (rw is at joined))
-
-      -- 8
-      pub too-long : {r : ChainAnswer} {count : ℕ} {after : List ℕ} → TrailGiven path chain count after → 1024 < count
-          → r ≡ refusal 8 → GivesChain outcome r after
-      too-long g h same =
-          let long : leb (length path) 1024 ≡ false = lt-leb (length path) 1024 (rw (g .count) at h) in
-          refuses clock counts log chain one other (passed ∙ fails 7 _ long) same (rw long at (g .buffer))
-
-      pub answers : {r : ChainAnswer} {count k : ℕ} {after : List ℕ} → TrailGiven path chain count after → count ≤ 1024
+      pub answers : {r : ChainAnswer} {count k : ℕ} {after : List ℕ} → TrailGiven path chain count after
           → k ≡ openSlide clock → r ≡ record { newest = k + j - clock .n; cells = count; hold = j - 1; number = 0 }
           → GivesChain outcome r after
       unfolding chainByNumber
-      answers g h at-open same =
-          let short : leb (length path) 1024 ≡ true = le-leb (length path) 1024 (rw (g .count) at h) in
-          rw (passed ∙ last-passes 8 short) (record { answered = same ∙ rw (at-open, is, g .count); written = rw short at (g .buffer) })
+      answers g at-open same = rw done (record { answered = same ∙ rw (at-open, is, g .count); written = g .buffer })
+        where
+          done : trailNumber clock counts log one other ≡ 0
+          done = ap (λ t. unless t 7) (lt-ltb 0 label (rw is at joined))
 
       chained : Chained (linksFromLabel j links) one other
       chained =

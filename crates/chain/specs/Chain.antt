@@ -1,4 +1,4 @@
--- The chain call (RULES 5), for every book, log, pair of cells and chain buffer: order 1, 6, 3, 7, 8.
+-- The chain call (RULES 5), for every book, log, pair of cells and chain buffer: order 1, 6, 3, 7.
 --
 -- The labels of window say it in one go. With j the largest label such that the links from it on chain the two, L is
 -- k + j - n and the hold is j - 1. A cell and itself are chained with no link at all, so j is then n + 1: L is k + 1 and the hold n.
@@ -6,7 +6,7 @@ use Prim.Native.Nat.{ℕ, zero, suc, _+_, _-_, _≤_, _<_}
 use mathlib.Core.Path.{_≡_}
 use mathlib.Core.Bool.{_&&_}
 use mathlib.Core.List.{List, [], _∷_}
-use lib.Dec.{leb, ltb}
+use lib.Dec.{ltb}
 use lib.ListN.{length}
 use Rattle.numbers.specs.Front.{atFront}
 use Rattle.numbers.specs.Kinds.{Cell, Counts, Label, Log, Number}
@@ -35,12 +35,9 @@ abbrev pub chainCells : (clock : Clock) (counts : Counts) (log : Log) (one other
 chainCells clock counts log one other =
     trailOf (linksFromLabel (labelOf clock counts log one other) (windowLinks clock counts log)) one other
 
--- what the window is asked: 7 and 8
-abbrev pub windowChecks : (clock : Clock) (counts : Counts) (log : Log) (one other : Cell) → List Number
-windowChecks clock counts log one other =
-    unless (ltb 0 (labelOf clock counts log one other)) 7
-    ∷ unless (leb (length (chainCells clock counts log one other)) 1024) 8
-    ∷ []
+-- what the window is asked: 7
+abbrev pub trailNumber : (clock : Clock) (counts : Counts) (log : Log) (one other : Cell) → Number
+trailNumber clock counts log one other = unless (ltb 0 (labelOf clock counts log one other)) 7
 
 unfoldable pub chainNumber : (book : Book) (log : Log) (chain : List Cell) (one other : Cell) → Number
 chainNumber b log chain one other =
@@ -48,7 +45,8 @@ chainNumber b log chain one other =
     (unless (inOrder b) 1
     ∷ unless (has logPlaces log && has chainPlaces chain) 6
     ∷ unless (areCells one other) 3
-    ∷ windowChecks (b .clock) (b .counts) log one other)
+    ∷ trailNumber (b .clock) (b .counts) log one other
+    ∷ [])
 
 -- the answer, and what the chain buffer holds afterwards
 pub record ChainOutcome : Type 0 where
@@ -73,7 +71,7 @@ chainOf b log chain one other = chainByNumber (chainNumber b log chain one other
 -- the same of the window alone, where numbers 1, 6 and 3 are not given
 abbrev pub windowChain : (clock : Clock) (counts : Counts) (log : Log) (chain : List Cell) (one other : Cell) → ChainOutcome
 windowChain clock counts log chain one other =
-    chainByNumber (firstOf (windowChecks clock counts log one other)) clock counts log chain one other
+    chainByNumber (trailNumber clock counts log one other) clock counts log chain one other
 
 -- an answer and a chain buffer are those of an outcome
 pub record GivesChain (o : ChainOutcome) (answer : ChainAnswer) (chain : List Cell) : Type 0 where

@@ -19,7 +19,7 @@ pub fn refused(number: u8) -> ChainAnswer
     }
 }
 
-// The answer where numbers 1, 6 and 3 are not given: 7 and 8 are left.
+// The answer where numbers 1, 6 and 3 are not given: 7 is left.
 pub fn answer(
     clock: Clock,
     counts: &[u16; 32],
@@ -36,9 +36,6 @@ pub fn answer(
         return refused(7);
     }
     let cells = trail_from(clock, counts, log, label, one, other, chain);
-    if 1024 < cells {
-        return refused(8);
-    }
     let k = slides::open_slide(clock);
     answered(k, clock.n, label, cells)
 }

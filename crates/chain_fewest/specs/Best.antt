@@ -1,9 +1,7 @@
 -- The best trail over links in two lists, as it is asked for and as it is given.
 use Prim.Native.Nat.{ℕ, _≤_, _<_}
 use mathlib.Core.Path.{_≡_}
-use mathlib.Core.Bool.{cond}
 use mathlib.Core.List.{List}
-use lib.Dec.{leb}
 use lib.ListN.{length}
 use Rattle.forest.specs.Arrays.{places}
 use Rattle.numbers.specs.Front.{atFront}
@@ -22,7 +20,7 @@ pub record TrailAskable (ones others : List ℕ) (one other : ℕ) (chain : List
   pub room : places ≤ length chain
   pub chained : Chained (linksOf ones others) one other
 
--- the number of its cells, and the buffer afterwards; a trail of more cells than such an array has places is not written
+-- the number of its cells, and the buffer afterwards: the trail at its front, and later places keep what they had
 pub record TrailGiven (cs chain : List ℕ) (cells : ℕ) (after : List ℕ) : Type 0 where
   pub count : cells ≡ length cs
-  pub buffer : after ≡ cond (leb (length cs) places) (atFront cs chain) chain
+  pub buffer : after ≡ atFront cs chain

@@ -13,8 +13,8 @@ ghost use Rattle.graph.specs.Trail.{trailOf};
 ghost use Rattle.chain_fewest.specs.Lists.{linksOf, BothWays};
 ghost use Rattle.chain_fewest.specs.Best.{TrailAskable, TrailGiven};
 
-// Writes the best trail from one cell to the other to the front of the chain, unless it has more than 1,024 cells, and
-// returns its number of cells.
+// Writes the best trail from one cell to the other to the front of the chain, and returns its number of cells. It has no cell
+// twice, so the chain has room.
 pub fn best_trail(ones: &[u16], others: &[u16], one: u16, other: u16, chain: &mut [u16]) -> u16
     requires { ⌜ TrailAskable (now ones) (now others) one other (now chain) ⌝ }
     ensures { λ r.
@@ -75,10 +75,6 @@ fn trail_over(
         other,
         &mut remaining,
     );
-    let cells = remaining[one as usize];
-    if 1024 < cells {
-        return cells;
-    }
     descend(
         ones,
         others,
@@ -91,5 +87,5 @@ fn trail_over(
         other as usize,
         chain,
     );
-    cells
+    remaining[one as usize]
 }

@@ -3,7 +3,7 @@
 -- Let j be the largest label such that the window's links with label j or more chain the two. Links with label c + 1 or more are
 -- those of the window c closings later (Window). So two different cells are chained c closings later exactly when c < j, and the hold
 -- is j - 1. The last window that chains them has the links of slides L to k, with L + n = k + j; it does not start before slide 0,
--- since otherwise one closing more would lose no link. Number 8 comes from no book at all (NoEight).
+-- since otherwise one closing more would lose no link.
 use Prim.Native.Nat.{ℕ, suc, _+_, _-_, _≤_, _<_, zero-le}
 use mathlib.Core.Path.{_≡_, refl, sym, _∙_, ap, subst, subst⁻¹}
 use mathlib.Core.Bool.{Bool, true, false}
@@ -37,7 +37,6 @@ use Rattle.demands.proofs.Lists.{same-test}
 use Rattle.numbers.proofs.Checks.{first-last, passes}
 use Rattle.demands.proofs.NumbersAgree.{chain-gives}
 use Rattle.demands.proofs.ChainFits.{chain-done, fits}
-use Rattle.demands.proofs.NoEight.{four-checks, no-eight}
 use Rattle.demands.proofs.InOrder.{agrees-in-order}
 use Rattle.demands.proofs.Keeps.{step, keeps}
 use Rattle.demands.proofs.Closings.{closed, window-then, closed-now, closed-fewer, closed-since}
@@ -159,7 +158,8 @@ module _ {h : History} {s : State} (agrees : Agrees h s) (one other : ℕ) where
         ∷ unless (areCells one other) 3
         ∷ unless (chains (windowOf h) one other) 7
         ∷ [])
-    chain-number = four-checks (s .book) (s .log) chain one other ∙ passes 1 _ (agrees-in-order agrees) ∙ rw (agrees .room, label-window)
+    unfolding chainNumber
+    chain-number = passes 1 _ (agrees-in-order agrees) ∙ rw (agrees .room, label-window)
 
     abbrev given : ChainOutcome
     given =
@@ -265,7 +265,6 @@ pub chain : Chain ours
 chain =
     record {
       number = λ s cs h told chain one other. chain-gives (after ours s cs .book) (after ours s cs .log) chain one other ∙ chain-number (keeps s cs h told) one other chain;
-      never-8 = no-eight;
-      fits = fits;
       answers = λ s cs h told chain places one other are. answers (keeps s cs h told) one other chain places are;
+      fits = fits;
     }

@@ -16,7 +16,6 @@ pub mod LampsAre
 pub mod Lists
 pub mod Log
 pub mod NeverOpened
-pub mod NoEight
 pub mod NumbersAgree
 pub mod Refused
 pub mod Split
@@ -24,5 +23,6 @@ pub mod Spots
 pub mod Steps
 pub mod Table
 pub mod Touching
+pub mod Unassigned
 pub mod Window
 pub mod WindowIs

@@ -8,7 +8,7 @@ use mathlib.Core.List.{List, [], _∷_}
 use mathlib.Core.Option.{some}
 use lib.Dec.{eqb}
 use lib.ListN.{length, getD, take, drop}
-use Rattle.numbers.specs.Kinds.{Bytes, Cell, Log}
+use Rattle.numbers.specs.Kinds.{Bytes, Cell, Log, Number}
 use Rattle.graph.specs.Link.{Linked, Chained, chains}
 use Rattle.graph.specs.Trail.{Best, NoneTwice}
 use Rattle.graph.specs.Forest.{Forest, forestOf, walk, walkAt, parentAt}
@@ -30,6 +30,7 @@ use Rattle.book_state.specs.Numbers.{logPlaces, areCells}
 use Rattle.file.specs.Layout.{AreBytes, FitsFields, endingSize, recordCount}
 use Rattle.file.specs.Format.{readNumber, readOf}
 use Rattle.file_write.specs.Writer.{writeNumber, outputOf}
+use Rattle.text_list.specs.Call.{textInOf, textOutOf}
 use Rattle.text_list.specs.Promises.{Texts}
 use Rattle.file_play.specs.Play.{Play, playFrom, playOf, recordGives}
 use Rattle.file_record.specs.Record.{packNumber, packedOf, recordOf}
@@ -224,7 +225,7 @@ pub record Answers (p : Implementation) (s : State) (h : History) (chain : List 
   pub itself : one ≡ other → Itself h one o
 
 -- 3. chain: the number is 6 for a chain buffer that is too short, else 3 where one of the two is no cell, else 7 where there is no
--- trail, and never 1 or 8 (RULES 7.2, 7.8, 5.11); 8 not from an altered book or log either; and what it answers
+-- trail, and never 1 (RULES 7.2, 7.8); what it answers, and that what it hands back fits
 pub record Chain (p : Implementation) : Type 0 where
   pub number : AfterCalls p λ s h. (chain : List ℕ) (one other : ℕ) →
       givesChain p s chain one other .answer .number
@@ -233,10 +234,29 @@ pub record Chain (p : Implementation) : Type 0 where
       ∷ unless (areCells one other) 3
       ∷ unless (chains (windowOf h) one other) 7
       ∷ [])
-  pub never-8 : (s : State) (chain : List ℕ) (one other : ℕ) → givesChain p s chain one other .answer .number ≡ 8 → ⊥
-  pub fits : (s : State) (chain : List ℕ) (one other : ℕ) → givesChain p s chain one other .answer .number ≡ 0 → Fits (givesChain p s chain one other)
   pub answers : AfterCalls p λ s h. (chain : List ℕ) → has chainPlaces chain ≡ true → (one other : ℕ) → areCells one other ≡ true →
       Answers p s h chain one other (givesChain p s chain one other)
+  pub fits : (s : State) (chain : List ℕ) (one other : ℕ) → givesChain p s chain one other .answer .number ≡ 0 → Fits (givesChain p s chain one other)
+
+-- the number that is unassigned (RULES 7.1)
+abbrev pub unassigned : Number
+unassigned = 8
+
+-- no call gives it, whatever the call is lent, altered books too
+pub record Unassigned (p : Implementation) : Type 0 where
+  pub calls : (s : State) (c : Call) → gives p s c .number ≡ unassigned → ⊥
+  pub joined : (b : Book) (one other : ℕ) → p .joinedGives b one other .number ≡ unassigned → ⊥
+  pub chain : (s : State) (chain : List ℕ) (one other : ℕ) → givesChain p s chain one other .answer .number ≡ unassigned → ⊥
+  pub lamps : (s : State) (mask : Bytes) → givesLamps p s mask .number ≡ unassigned → ⊥
+  pub groups : (b : Book) (log first size hold : List ℕ) → groupsGiven b log first size hold .answer .number ≡ unassigned → ⊥
+  pub read : (file : Bytes) → readOf file .number ≡ unassigned → ⊥
+  pub write : (s : Settings) (bytes room : ℕ) → writeNumber s bytes room ≡ unassigned → ⊥
+  pub play : (file : Bytes) (b : Book) (log : Log) → playOf file b log .number ≡ unassigned → ⊥
+  pub pack : (room : ℕ) → packNumber room ≡ unassigned → ⊥
+  pub unpack : (records : Bytes) (i : ℕ) → recordOf records i .number ≡ unassigned → ⊥
+  pub list : (file out : Bytes) → listingOf file out .answer .number ≡ unassigned → ⊥
+  pub text-in : (s : Settings) (text out : Bytes) → textInOf s text out .answer .number ≡ unassigned → ⊥
+  pub text-out : (file out : Bytes) → textOutOf file out .answer .number ≡ unassigned → ⊥
 
 -- only cells that touch are linked (RULES 1.8, 2.11). Either may be named first, none touches itself, and the unit's numbers and the
 -- lorry's are judged alike; any two cells that a link of a history links touch, in the lorry's numbers

@@ -9,6 +9,7 @@ use Rattle.demands.proofs.NeverOpened.{never-opened}
 use Rattle.demands.proofs.Refused.{refused}
 use Rattle.demands.proofs.Table.{table}
 use Rattle.demands.proofs.Touching.{touching}
+use Rattle.demands.proofs.Unassigned.{eight-unassigned}
 use Rattle.demands_cases.specs.Cases.{cases}
 use Rattle.demands_listing.proofs.Listed.{listed}
 use Rattle.pledges.proofs.Single.{single}
@@ -38,6 +39,7 @@ kept =
       demand-3 = record { chain = chain; code-chain = code-chain };
       table = table;
       code-table = code-table;
+      unassigned = eight-unassigned;
       touching = touching;
       lamps = lamps;
       code-lamps = code-lamps;

@@ -10,7 +10,7 @@
 -- the code itself (Routines).
 use Rattle.demands.specs.Implementation.{ours}
 use Rattle.demands.specs.Agrees.{Agrees}
-use Rattle.demands.specs.Demands.{AfterCalls, Table, Refused, FilesRefused, NeverOpened, Joined, Files, Chain, Touching, Lamps}
+use Rattle.demands.specs.Demands.{AfterCalls, Table, Refused, FilesRefused, NeverOpened, Joined, Files, Chain, Unassigned, Touching, Lamps}
 use Rattle.demands_cases.specs.Cases.{Cases}
 use Rattle.demands_listing.specs.Listed.{Listed}
 use Rattle.pledges.specs.Single.{Single}
@@ -50,6 +50,8 @@ pub record Kept : Type 2 where
   -- the numbers of the table, by the history
   pub table : Table ours
   pub code-table : CodeTable
+  -- no call gives 8, whatever it is lent (RULES 7.1)
+  pub unassigned : Unassigned ours
   -- only cells that touch are linked (RULES 2.11)
   pub touching : Touching
   -- the two lamps, by the history and by joined (RULES 11)

@@ -46,7 +46,7 @@ const CROSSINGS: &Spans = &[
     (100, "100 to 999"),
     (1_000, "1,000 and more"),
 ];
-const LINKS_OF_CHAIN: &Spans = &[
+pub(crate) const LINKS_OF_CHAIN: &Spans = &[
     (1, "1"),
     (2, "2"),
     (3, "3 to 9"),

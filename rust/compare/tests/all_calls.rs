@@ -13,7 +13,7 @@ use streams::files::{edge_files, every_field, file_of, valid_file, Files};
 use streams::{built, draw_settings, lent_bytes, lent_places, Call, Dice, Kind, Random};
 
 const ALL: usize = CELLS as usize;
-/// Numbers that a call can give: 0 to 15.
+/// Numbers that a call can give are 0 to 15; 8 is none of them.
 const NUMBERS: usize = Refusal::Mask as usize + 1;
 
 // Cells.

@@ -93,7 +93,7 @@ fn joined_1_3() {
     }
 }
 
-/// Number 6 by the log and by the chain buffer. 8 cannot be earned.
+/// Number 6 by the log and by the chain buffer.
 #[test]
 fn chain_1_6_3_7() {
     for faults in all_sets() {

@@ -1,4 +1,4 @@
-//! The numbers that a call can give, 0 aside.
+//! The numbers that a call can give, 0 aside. 8 is unassigned: no call gives it.
 
 use core::fmt;
 
@@ -18,7 +18,6 @@ pub enum Refusal {
     Full = 5,
     Short = 6,
     NoTrail = 7,
-    LongTrail = 8,
     Length = 9,
     Letters = 10,
     Offset = 11,
@@ -44,7 +43,6 @@ impl Refusal {
             Refusal::Full => "the link's slide already holds 256 links",
             Refusal::Short => "a lent buffer is too short",
             Refusal::NoTrail => "no links of the window chain the two cells",
-            Refusal::LongTrail => "the chain would have more than 1,024 cells",
             Refusal::Length => "the length is that of no link file, or of no records",
             Refusal::Letters => "the last four bytes of the file are not KERB",
             Refusal::Offset => "the file's offset and count do not agree with its length",
@@ -67,7 +65,6 @@ impl Refusal {
             5 => Refusal::Full,
             6 => Refusal::Short,
             7 => Refusal::NoTrail,
-            8 => Refusal::LongTrail,
             9 => Refusal::Length,
             10 => Refusal::Letters,
             11 => Refusal::Offset,
@@ -96,9 +93,15 @@ mod tests {
     #[test]
     fn a_number_gives_the_refusal_of_that_number() {
         assert_eq!(Refusal::unless_done(0), Ok(()));
-        for number in 1..=15 {
+        for number in (1..=7).chain(9..=15) {
             let refusal = Refusal::unless_done(number).unwrap_err();
             assert_eq!(refusal.number(), number);
         }
+    }
+
+    #[test]
+    #[should_panic(expected = "the library gives no number 8")]
+    fn no_refusal_has_number_8() {
+        let _ = Refusal::unless_done(8);
     }
 }

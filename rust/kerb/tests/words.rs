@@ -14,7 +14,6 @@ fn refusals_say_what_the_header_says() {
         Refusal::Full,
         Refusal::Short,
         Refusal::NoTrail,
-        Refusal::LongTrail,
         Refusal::Length,
         Refusal::Letters,
         Refusal::Offset,

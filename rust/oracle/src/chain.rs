@@ -1,8 +1,8 @@
 //! "Chain and hold".
 
 use crate::book::{long_enough, Book, History, LOG_PLACES};
-use crate::cells::{both_are_cells, CELLS};
-use crate::refusal::{refuse_if, Refusal};
+use crate::cells::both_are_cells;
+use crate::refusal::Refusal;
 use crate::search::Linked;
 
 /// The chain buffer needs this many 16-bit places.
@@ -20,7 +20,7 @@ pub struct Chain {
 }
 
 impl Book {
-    /// Chain: 1, 6, 3, 7, 8. The cells are in the lorry's numbers. The chain is
+    /// Chain: 1, 6, 3, 7. The cells are in the lorry's numbers. The chain is
     /// written to the front of the lent buffer; later places keep what they
     /// had, and a refusal writes nothing. Number 6 is for either buffer, the
     /// log or that of the chain.
@@ -36,9 +36,9 @@ impl Book {
         long_enough(lent.len(), CHAIN_PLACES)?;
         both_are_cells(first, second)?;
         let (l, cells) = history.trail(first, second).ok_or(Refusal::NoTrail)?;
-        refuse_if(cells.len() > CELLS as usize, Refusal::LongChain)?;
 
-        for (place, &cell) in lent.iter_mut().zip(&cells) {
+        // A chain with the fewest links meets no cell twice: the buffer has room.
+        for (place, &cell) in lent[..cells.len()].iter_mut().zip(&cells) {
             *place = cell as u16;
         }
         Ok(Chain {

@@ -1,4 +1,4 @@
-//! "Numbers a call can give".
+//! "Numbers a call can give". 8 is unassigned.
 
 /// The refusals of the table; each carries the table's number.
 #[derive(Clone, Copy, Debug, PartialEq, Eq)]
@@ -17,8 +17,6 @@ pub enum Refusal {
     Buffer = 6,
     /// No trail.
     NoTrail = 7,
-    /// The chain would have more than 1,024 cells.
-    LongChain = 8,
     /// The length of the file, or of the writer's records.
     Length = 9,
     /// The last four bytes are not KERB.

@@ -1,8 +1,8 @@
--- `chain::over_fields` meets its contract: the checks come in the order 1, 6, 3 (proofs/ChainCall.antt), and 7 and 8 are left to
--- the answer.
+-- `chain::over_fields` meets its contract: the checks come in the order 1, 6, 3 (proofs/ChainCall.antt), and 7 is left to the answer.
 use Prim.Native.Nat.{_<_}
 use mathlib.Core.Path.{_≡_, sym, _∙_}
 use mathlib.Core.Bool.{true}
+use native.Mathlib.Omega.{arith}
 use borrow.Author.Tests.{le-leb, not-true, not-false}
 use Rattle.book_state.specs.declared.Book.{Book}
 use Rattle.book_state.specs.Order.{bookOf, inOrder}
@@ -54,7 +54,8 @@ refused-requires-3 c κs = search needs
 returns-3 : tie.Need-returns-3
 returns-3 c =
     let second = c .before .before in
-    call-refused _ _ _ _ _ (short-chain _ _ _ _ _ (ordered (second .before)) (room second) (c .before .if3 .taken)) (c .refused3 .ensures)
+    let chain = entry (second .before .before) .args .chain .now in
+    call-refused _ _ _ _ _ (short-chain _ _ chain _ _ (ordered (second .before)) (room second) (omega (arith, c .before .if3 .taken))) (c .refused3 .ensures)
 
 are-cells-requires : tie.Need-are-cells-requires
 are-cells-requires c κs = search needs
@@ -67,7 +68,7 @@ returns-4 c =
     let asked = c .before .before in
     let third = asked .before in
     let second = third .before in
-    call-refused _ _ _ _ _ (no-cells _ _ _ _ _ (ordered (second .before)) (room second) (third .if3 .left) (sym (asked .are-cells .ensures) ∙ not-true _ (c .before .if4 .taken))) (c .refused4 .ensures)
+    call-refused _ _ _ _ _ (no-cells _ _ _ _ _ (ordered (second .before)) (room second) (omega (arith, third .if3 .left)) (sym (asked .are-cells .ensures) ∙ not-true _ (c .before .if4 .taken))) (c .refused4 .ensures)
 
 -- where both are cells
 are : (c : tie.Else4) → (let args = entry (c .before .before .before .before .before) .args in areCells (args .one) (args .other) ≡ true)
@@ -83,7 +84,7 @@ answer-requires c κs =
     let second = third .before in
     record {
       readable = readable _ _ (ordered (second .before)) (room second);
-      chain-room = third .if3 .left;
+      chain-room = omega (arith, third .if3 .left);
       one-cell = both fourth .0;
       other-cell = both fourth .1;
     }
@@ -96,7 +97,7 @@ returns-5 c =
     let fourth = c .before .before .before .before in
     let third = fourth .before .before in
     let second = third .before in
-    call-answered _ _ _ _ _ (ordered (second .before)) (room second) (third .if3 .left) (are fourth) (c .before .before .answer .ensures)
+    call-answered _ _ _ _ _ (ordered (second .before)) (room second) (omega (arith, third .if3 .left)) (are fourth) (c .before .before .answer .ensures)
 
 pub over-fields-spec : {M : Type 1} → statement M
 over-fields-spec =

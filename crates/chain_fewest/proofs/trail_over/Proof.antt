@@ -3,7 +3,7 @@ use Prim.Native.Nat.{ℕ}
 use borrow.Author.Needs.{needs}
 use lib.ListN.{length-replicate}
 use Rattle.forest.specs.Arrays.{places}
-use Rattle.chain_fewest.proofs.BestTrail.{all-blank, may-descend, gives-written, gives-unwritten}
+use Rattle.chain_fewest.proofs.BestTrail.{all-blank, may-descend, gives}
 use Rattle.chain_fewest.proofs.trail_over.Statement.{statement}
 use Rattle.chain_fewest.proofs.trail_over.Tie as tie
 
@@ -12,26 +12,19 @@ count-cells-requires c κs =
     let given = c .before .before .before .before .before .before .before .before .pre in
     (given .0 .otherInside, (length-replicate {A = ℕ} places 0, (all-blank places, given .1)))
 
-returns : tie.Need-returns
-returns c =
-    let counted = c .before .before in
-    let given = counted .before .before .before .before .before .before .before .before .before .pre in
-    gives-unwritten (given .0) (counted .count-cells .ensures) (c .if1 .taken)
-
 descend-requires : tie.Need-descend-requires
 descend-requires c κs =
-    let short = c .before .before in
-    let counted = short .before .before in
+    let counted = c .before .before .before in
     let given = counted .before .before .before .before .before .before .before .before .before .pre in
     let size = counted .count-cells .kept .1 .1 .1 .1 .1 .1 .1 .0 in
-    may-descend (given .0) (counted .count-cells .ensures) (given .1) size (short .if1 .left)
+    may-descend (given .0) (counted .count-cells .ensures) (given .1) size
 
-returns-2 : tie.Need-returns-2
-returns-2 c =
-    let short = c .before .before .before .before .before in
-    let counted = short .before .before in
+returns : tie.Need-returns
+returns c =
+    let ready = c .before .before .before in
+    let counted = ready .before .before .before in
     let given = counted .before .before .before .before .before .before .before .before .before .pre in
-    gives-written (given .0) (counted .count-cells .ensures) (short .if1 .left) (c .before .before .descend .ensures)
+    gives (given .0) (counted .count-cells .ensures) (c .before .before .descend .ensures)
 
 pub trail-over-spec : {M : Type 1} → statement M
 trail-over-spec =
@@ -40,9 +33,8 @@ trail-over-spec =
     (λ c. search needs)
     count-cells-requires
     (λ c. search needs)
-    (λ c. search needs)
-    returns
-    (λ c. search needs)
     descend-requires
     (λ c. search needs)
-    returns-2)
+    (λ c. search needs)
+    (λ c. search needs)
+    returns)

@@ -10,9 +10,10 @@ use oracle::CELLS;
 use streams::{draw_settings, Dice, Kind, Random, MOST_LOG_PLACES};
 
 /// The kinds of altered books.
-pub const KINDS: [&str; 5] = [
+pub const KINDS: [&str; 6] = [
     "left by calls, changed",
     "in range",
+    "all cells in one chain",
     "too deep or in a circle",
     "one field outside",
     "any bytes",
@@ -32,7 +33,8 @@ pub struct Altered {
 pub fn draw(dice: &mut Dice, left: &[State]) -> Altered {
     match dice.below(20) {
         0..=3 => changed(dice, left),
-        4..=13 => in_range(dice),
+        4..=12 => in_range(dice),
+        13 => all_in_one_chain(dice),
         14 | 15 => too_deep(dice),
         16..=18 => one_field_outside(dice),
         _ => any_bytes(dice),
@@ -137,6 +139,24 @@ fn in_range(dice: &mut Dice) -> Altered {
         state: State { book, log },
         cells,
     }
+}
+
+/// Slides of 256 links each that lead through all cells, in any order, and then
+/// again: the longest chain that a log can hold. In the first slides of chunk 0 the
+/// window does not have all of it.
+fn all_in_one_chain(dice: &mut Dice) -> Altered {
+    let mut altered = in_range(dice);
+    let cells = dice.shuffled_cells();
+    let State { book, log } = &mut altered.state;
+    book.clock.n = 16;
+    book.counts = [256; 32];
+    let links = cells.windows(2).cycle();
+    for (pair, link) in log.chunks_exact_mut(2).zip(links) {
+        pair.copy_from_slice(&[link[0] as u16, link[1] as u16]);
+    }
+    altered.kind = "all cells in one chain";
+    altered.cells = vec![cells[0], cells[cells.len() - 1]];
+    altered
 }
 
 // Fields in their ranges, and number 1 all the same.

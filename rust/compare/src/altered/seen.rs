@@ -5,9 +5,9 @@ use super::order::{disorder, REASONS};
 use super::said;
 use crate::fields::spot;
 use crate::lamps::{lamps_of, lit, LIT};
-use crate::seen::{count_apart, hop, number_row, APART, HOPS};
+use crate::seen::{count_apart, hop, number_row, APART, HOPS, LINKS_OF_CHAIN};
 use crate::state::State;
-use crate::tally::{number, span, Spans, Tally, NUMBERS};
+use crate::tally::{names, number, span, Spans, Tally, NUMBERS};
 use oracle::{touch, Book, CellSet, Linked, CHAIN_PLACES, LOG_PLACES};
 use streams::{lamps_answer, Answer, Call};
 
@@ -62,6 +62,7 @@ pub fn tally() -> Tally {
         ("its links", &["touch", "do not all touch"]),
         ("hold of two cells", &NUMBERS[..16]),
         ("hold of a cell with itself", &NUMBERS[1..]),
+        ("links of a chain", &names(LINKS_OF_CHAIN)),
         ("lamps lit", &LIT),
         ("a lamp is lit by a link", &LIT_BY),
         ("lamps by the forests", &["the same", "others"]),
@@ -112,13 +113,14 @@ fn count_done(tally: &mut Tally, before: &State, after: &State, call: &Call, ans
             let agree = chained == *joined;
             tally.count("forests and log", if agree { "agree" } else { "disagree" });
         }
-        (Call::Chain { first, second, .. }, Answer::Chain { hold, .. }) => {
-            let row = if first == second {
-                "hold of a cell with itself"
+        (Call::Chain { first, second, .. }, Answer::Chain { hold, cells, .. }) => {
+            if first == second {
+                tally.count("hold of a cell with itself", number(*hold));
             } else {
-                "hold of two cells"
-            };
-            tally.count(row, number(*hold));
+                tally.count("hold of two cells", number(*hold));
+                let links = span(LINKS_OF_CHAIN, u64::from(*cells) - 1);
+                tally.count("links of a chain", links);
+            }
             count_window(tally, after);
         }
         (Call::Lamps { mask, .. }, _) => count_lamps(tally, after, mask, answer),

@@ -4,7 +4,7 @@ use Prim.Native.Nat.{_<_}
 use native.Mathlib.Omega.{arith}
 use native.Mathlib.Nat.{pos-of-ne-zero}
 use Rattle.slides.proofs.Slides.{open-fits}
-use Rattle.chain.proofs.ChainCall.{unjoined, too-long, answers, newest-is}
+use Rattle.chain.proofs.ChainCall.{unjoined, answers, newest-is}
 use borrow.Author.Needs.{needs}
 use Rattle.chain.proofs.answer.answer.Statement.{statement}
 use Rattle.chain.proofs.answer.answer.Tie as tie
@@ -36,24 +36,12 @@ trail-from-requires c κs =
     let e = c .before in
     (start (e .before) .pre, (e .before .newest-label .ensures, joined e))
 
-refused-requires-2 : tie.Need-refused-requires-2
-refused-requires-2 c κs = search needs
-
-same-length : tie.Need-same-length
-same-length c = search needs
-
-returns-2 : tie.Need-returns-2
-returns-2 c =
-    let call = c .before .before .before .before in
-    let e = trail call in
-    too-long (start (e .before) .pre) (e .before .newest-label .ensures) (joined e) (call .trail-from .ensures) (c .before .if2 .taken) (c .refused2 .ensures)
-
 open-slide-requires : tie.Need-open-slide-requires
 open-slide-requires c κs = search needs
 
 answered-requires : tie.Need-answered-requires
 answered-requires c κs =
-    let e = trail (c .before .before .before .before) in
+    let e = trail (c .before .before .before) in
     let entry = start (e .before) in
     let clock = entry .args .clock in
     let slide = c .open-slide .ensures in (
@@ -61,16 +49,15 @@ answered-requires c κs =
       (omega (arith, slide, newest-is (entry .pre) (e .before .newest-label .ensures) (joined e)), joined e),
     )
 
-same-length-2 : tie.Need-same-length-2
-same-length-2 c = search needs
+same-length : tie.Need-same-length
+same-length c = search needs
 
-returns-3 : tie.Need-returns-3
-returns-3 c =
+returns-2 : tie.Need-returns-2
+returns-2 c =
     let a = c .before in
-    let call = a .before .before .before .before in
+    let call = a .before .before .before in
     let e = trail call in
-    answers (start (e .before) .pre) (e .before .newest-label .ensures) (joined e) (call .trail-from .ensures) (a .before .if2 .left) (a .open-slide .ensures)
-    (c .answered .ensures)
+    answers (start (e .before) .pre) (e .before .newest-label .ensures) (joined e) (call .trail-from .ensures) (a .open-slide .ensures) (c .answered .ensures)
 
 pub answer-spec : {M : Type 1} → statement M
 answer-spec =
@@ -80,10 +67,7 @@ answer-spec =
     refused-requires
     returns
     trail-from-requires
-    refused-requires-2
-    same-length
-    returns-2
     open-slide-requires
     answered-requires
-    same-length-2
-    returns-3)
+    same-length
+    returns-2)
