@@ -1,16 +1,16 @@
 -- Number 8 is unassigned: a call gives 0 or the number of one of its checks, and no check of any call has that number. Playing gives the
 -- reader's number, or that of a record's link call.
-use Prim.Native.Nat.{ℕ, zero, suc, _+_, _*_}
+use Prim.Native.Nat.{ℕ, _+_, _*_}
 use mathlib.Core.Path.{_≡_, refl, sym, _∙_, ap}
-use mathlib.Core.Bool.{Bool, true, false, _&&_, false≢true}
+use mathlib.Core.Bool.{Bool, false, _&&_}
 use mathlib.Core.List.{List, [], _∷_}
 use native.Mathlib.Omega.{arith}
 use native.Mathlib.Decide.{ℕ-discrete}
 use lib.Dec.{eqb, leb, ltb}
 use lib.ListN.{length}
-use borrow.Author.Tests.{eq-eqb}
 use Rattle.numbers.specs.Checks.{firstOf, unless, has}
-use Rattle.settings.specs.Settings.{inRange, settingsNumber, takenNumber}
+use Rattle.numbers.proofs.Checks.{never-checked, never-first, never-asked, never-last}
+use Rattle.settings.specs.Settings.{inRange}
 use Rattle.settings.specs.declared.Settings.{Settings}
 use Rattle.cells.specs.Touching.{touch}
 use Rattle.slides.specs.Clock.{notBefore, slideOf}
@@ -26,8 +26,9 @@ use Rattle.groups.specs.Call.{groupsNumberIn}
 use Rattle.lamps.specs.Lamps.{lampsNumberIn}
 use Rattle.lamps.specs.Mask.{isMask}
 use Rattle.file.specs.Layout.{settingsOf}
-use Rattle.file.specs.Format.{recordsFit, ending, lengthFits, lettersStand, offsetAgrees, padsZero, readNumber}
-use Rattle.file_write.specs.Writer.{roomFits, writeChecks, writeNumber}
+use Rattle.file.specs.Format.{ending, lengthFits, lettersStand, offsetAgrees, padsZero, readNumber}
+use Rattle.file_write.specs.Writer.{writeNumber}
+use Rattle.file_write.proofs.Laws.{write-never}
 use Rattle.file_play.specs.Play.{playFrom, playOf}
 use Rattle.listing.specs.Listing.{outputPlaces, listingOf}
 use Rattle.text_list.specs.Reading.{keeping}
@@ -46,33 +47,18 @@ Assigned k = k ≡ unassigned → ⊥
 same : {j k : ℕ} → j ≡ k → Assigned k → Assigned j
 same e assigned is = assigned (sym e ∙ is)
 
--- ---- checks
-
-check : (t : Bool) (k : ℕ) → eqb k unassigned ≡ false → Assigned (unless t k)
-check true k another e = omega arith
-check false k another e = false≢true (sym another ∙ eq-eqb k unassigned e)
-
-first : (k : ℕ) (ks : List ℕ) → Assigned k → Assigned (firstOf ks) → Assigned (firstOf (k ∷ ks))
-unfolding firstOf
-first zero ks assigned others e = others e
-first (suc k) ks assigned others e = assigned e
-
-done : Assigned (firstOf [])
-unfolding firstOf
-done e = omega arith
-
 -- a check, and those after it
 asks : (t : Bool) (k : ℕ) (ks : List ℕ) → eqb k unassigned ≡ false → Assigned (firstOf ks) → Assigned (firstOf (unless t k ∷ ks))
-asks t k ks another others = first (unless t k) ks (check t k another) others
+asks = never-asked unassigned refl
 
-settings-check : (s : Settings) → Assigned (settingsNumber s)
-settings-check s = check (inRange (s .n) (s .b) (s .mounting)) 2 refl
+done : Assigned (firstOf [])
+done = never-last unassigned refl
 
 -- ---- calls to a book
 
 opening-number : (s : Settings) (log : List ℕ) → Assigned (openingNumber s log)
 unfolding openingNumber
-opening-number s log = first (takenNumber s) _ (settings-check s) (asks (has logPlaces log) 6 _ refl done)
+opening-number s log = asks (inRange (s .n) (s .b) (s .mounting)) 2 _ refl (asks (has logPlaces log) 6 _ refl done)
 
 link-number : (b : Book) (log : List ℕ) (tick one other : ℕ) → Assigned (linkNumber b log tick one other)
 unfolding linkNumber
@@ -120,25 +106,22 @@ read-number : (file : List ℕ) → Assigned (readNumber file)
 unfolding readNumber
 read-number file =
     let end = ending file in
+    let s = settingsOf end in
     asks (lengthFits (length file)) 9 _ refl
     (asks (lettersStand end) 10 _ refl
-    (asks (offsetAgrees end (length file)) 11 _ refl (asks (padsZero end) 12 _ refl (first _ _ (settings-check (settingsOf end)) done))))
-
-write-checks : (s : Settings) (bytes room : ℕ) → Assigned (firstOf (writeChecks s bytes room))
-write-checks s bytes room =
-    first (takenNumber s) _ (settings-check s) (asks (recordsFit bytes) 9 _ refl (asks (roomFits bytes room) 6 _ refl done))
+    (asks (offsetAgrees end (length file)) 11 _ refl
+    (asks (padsZero end) 12 _ refl (asks (inRange (s .n) (s .b) (s .mounting)) 2 _ refl done))))
 
 write-number : (s : Settings) (bytes room : ℕ) → Assigned (writeNumber s bytes room)
-unfolding writeNumber
-write-number s bytes room = write-checks s bytes room
+write-number = write-never unassigned refl refl refl refl
 
 text-in-number : (s : Settings) (lines : List (List ℕ)) (room : ℕ) → Assigned (textInNumber s lines room)
-unfolding textInNumber
-text-in-number s lines room = asks (eqb (keeping lines) (length lines)) 13 _ refl (write-checks s (8 * length lines) room)
+unfolding textInNumber writeNumber
+text-in-number s lines room = asks (eqb (keeping lines) (length lines)) 13 _ refl (write-number s (8 * length lines) room)
 
 text-out-number : (file : List ℕ) (room : ℕ) → Assigned (textOutNumber file room)
 unfolding textOutNumber
-text-out-number file room = first (readNumber file) _ (read-number file) (asks (leb (length (fileText file)) room) 6 _ refl done)
+text-out-number file room = never-first unassigned refl (readNumber file) _ (read-number file) (asks (leb (length (fileText file)) room) 6 _ refl done)
 
 -- playing stops at a record that its link call refuses
 records-number : (file : List ℕ) (m : ℕ) (b : Book) (log : List ℕ) → Assigned (playFrom file 0 m b log .number)
@@ -165,9 +148,9 @@ eight-unassigned =
       read = λ file. same (read-gives file) (read-number file);
       write = write-number;
       play = play-number;
-      pack = λ room. check (leb 8 room) 6 refl;
-      unpack = λ records i. let whole = leb (8 * i + 8) (length records) in same (unpack-gives whole records i) (check whole 9 refl);
-      list = λ file out. let room = leb outputPlaces (length out) in same (list-gives room _ out) (check room 6 refl);
+      pack = λ room. never-checked unassigned refl (leb 8 room) 6 refl;
+      unpack = λ records i. let whole = leb (8 * i + 8) (length records) in same (unpack-gives whole records i) (never-checked unassigned refl whole 9 refl);
+      list = λ file out. let room = leb outputPlaces (length out) in same (list-gives room _ out) (never-checked unassigned refl room 6 refl);
       text-in = λ s text out. same (in-number s text out) (text-in-number s _ (length out));
       text-out = λ file out. same (out-number file out) (text-out-number file (length out));
     }

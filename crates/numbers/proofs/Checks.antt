@@ -1,11 +1,13 @@
 -- The laws of the first check that fails. Where the number is 0 every check is passed, and where it is not the first check
--- that fails says it; so the proof of a call goes down its list of checks, one law a check. And a list's places, counted.
+-- that fails says it; so the proof of a call goes down its list of checks, one law a check. A number that no check has is not given. And a
+-- list's places, counted.
 use Prim.Native.Nat.{ℕ, zero, suc, _≤_, zero-le}
 use mathlib.Core.Path.{_≡_, refl, sym, _∙_}
 use mathlib.Core.Bool.{Bool, true, false, false≢true}
 use mathlib.Core.List.{List, [], _∷_, _++_}
 use native.Mathlib.Omega.{arith}
-use lib.Dec.{leb, leb·zero, leb·suc-zero, leb·suc-suc}
+use borrow.Author.Tests.{eqb-false}
+use lib.Dec.{eqb, leb, leb·zero, leb·suc-zero, leb·suc-suc}
 use lib.ListN.{length, getD, replicate}
 use Rattle.numbers.specs.Checks.{firstOf, unless, has}
 
@@ -64,6 +66,26 @@ pub first-under : (t : Bool) (k : ℕ) (ks ms : List ℕ) → (t ≡ true → fi
 unfolding firstOf
 first-under true k ks ms e = e refl
 first-under false k ks ms e = refl
+
+-- ---- a number that no check has
+
+module _ (k : ℕ) (some : eqb 0 k ≡ false) where
+  pub never-checked : (t : Bool) (j : ℕ) → eqb j k ≡ false → unless t j ≡ k → ⊥
+  never-checked true j another = eqb-false 0 k some
+  never-checked false j another = eqb-false j k another
+
+  pub never-first : (j : ℕ) (js : List ℕ) → (j ≡ k → ⊥) → (firstOf js ≡ k → ⊥) → firstOf (j ∷ js) ≡ k → ⊥
+  unfolding firstOf
+  never-first zero js another others = others
+  never-first (suc j) js another others = another
+
+  -- a check, and those after it
+  pub never-asked : (t : Bool) (j : ℕ) (js : List ℕ) → eqb j k ≡ false → (firstOf js ≡ k → ⊥) → firstOf (unless t j ∷ js) ≡ k → ⊥
+  never-asked t j js another others = never-first (unless t j) js (never-checked t j another) others
+
+  pub never-last : firstOf [] ≡ k → ⊥
+  unfolding firstOf
+  never-last = eqb-false 0 k some
 
 -- ---- a list's places
 
