@@ -2,7 +2,7 @@
 --
 -- The links are between cells that have a place in an array of cells, and a best trail has no cell twice (graph, `best-few`). So it
 -- has no more cells than such an array has places, and there is room for it.
-use Prim.Native.Nat.{ℕ, zero, suc, _≤_, _<_}
+use Prim.Native.Nat.{ℕ, zero, suc, _≤_}
 use native.Mathlib.Nat.{le-trans}
 use native.Mathlib.Omega.{arith}
 use mathlib.Core.Path.{_≡_, refl, sym}
