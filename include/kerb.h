@@ -344,8 +344,8 @@ KERB_LOOK_AT struct kerb_joined_answer kerb_joined(const struct kerb_book *book,
 /*
  * Why the two cells are joined, IN THE LORRY'S NUMBERS, and for how long. The chain goes to the front of the buffer, from `one` to
  * `other`, 1 to 1,024 cells and none twice; later places keep what they had. `chain_places` is the number of 16-bit places of the
- * buffer, at least KERB_CHAIN_PLACES. For a cell and itself the chain is that cell, `newest` is one above the open slide and `hold` is n, read as
- * "always". For two cells `hold` is 0 to n - 1.
+ * buffer, at least KERB_CHAIN_PLACES. For a cell and itself the chain is that cell, `newest` is one above the open slide and `hold`
+ * is n, read as "always". For two cells `hold` is 0 to n - 1.
  * Refuses, in this order: 1, 6 (the log or the buffer), 3, 7. Stack: 50 KB.
  */
 KERB_LOOK_AT struct kerb_chain_answer kerb_chain(const struct kerb_book *book, const uint16_t *log, size_t log_places,

@@ -128,6 +128,26 @@ pub record FilesRefused : Type 0 where
   pub list : (file out : List ℕ) → (listingOf file out .answer .number ≡ 0 → ⊥) →
       listingOf file out ≡ record { answer = record { length = 0; number = listingOf file out .answer .number }; output = out }
 
+-- the number that is unassigned (RULES 7.1)
+abbrev pub unassigned : Number
+unassigned = 8
+
+-- no call gives it, whatever the call is lent, altered books too
+pub record Unassigned (p : Implementation) : Type 0 where
+  pub calls : (s : State) (c : Call) → gives p s c .number ≡ unassigned → ⊥
+  pub joined : (b : Book) (one other : ℕ) → p .joinedGives b one other .number ≡ unassigned → ⊥
+  pub chain : (s : State) (chain : List ℕ) (one other : ℕ) → givesChain p s chain one other .answer .number ≡ unassigned → ⊥
+  pub lamps : (s : State) (mask : Bytes) → givesLamps p s mask .number ≡ unassigned → ⊥
+  pub groups : (b : Book) (log first size hold : List ℕ) → groupsGiven b log first size hold .answer .number ≡ unassigned → ⊥
+  pub read : (file : Bytes) → readOf file .number ≡ unassigned → ⊥
+  pub write : (s : Settings) (bytes room : ℕ) → writeNumber s bytes room ≡ unassigned → ⊥
+  pub play : (file : Bytes) (b : Book) (log : Log) → playOf file b log .number ≡ unassigned → ⊥
+  pub pack : (room : ℕ) → packNumber room ≡ unassigned → ⊥
+  pub unpack : (records : Bytes) (i : ℕ) → recordOf records i .number ≡ unassigned → ⊥
+  pub list : (file out : Bytes) → listingOf file out .answer .number ≡ unassigned → ⊥
+  pub text-in : (s : Settings) (text out : Bytes) → textInOf s text out .answer .number ≡ unassigned → ⊥
+  pub text-out : (file out : Bytes) → textOutOf file out .answer .number ≡ unassigned → ⊥
+
 -- the two forests of the history (RULES 3.4 to 3.9) and the cut (RULES 3.10)
 abbrev pub forwardForest : History → Forest
 forwardForest h = forestOf stepLimit (forwardLinks h)
@@ -237,26 +257,6 @@ pub record Chain (p : Implementation) : Type 0 where
   pub answers : AfterCalls p λ s h. (chain : List ℕ) → has chainPlaces chain ≡ true → (one other : ℕ) → areCells one other ≡ true →
       Answers p s h chain one other (givesChain p s chain one other)
   pub fits : (s : State) (chain : List ℕ) (one other : ℕ) → givesChain p s chain one other .answer .number ≡ 0 → Fits (givesChain p s chain one other)
-
--- the number that is unassigned (RULES 7.1)
-abbrev pub unassigned : Number
-unassigned = 8
-
--- no call gives it, whatever the call is lent, altered books too
-pub record Unassigned (p : Implementation) : Type 0 where
-  pub calls : (s : State) (c : Call) → gives p s c .number ≡ unassigned → ⊥
-  pub joined : (b : Book) (one other : ℕ) → p .joinedGives b one other .number ≡ unassigned → ⊥
-  pub chain : (s : State) (chain : List ℕ) (one other : ℕ) → givesChain p s chain one other .answer .number ≡ unassigned → ⊥
-  pub lamps : (s : State) (mask : Bytes) → givesLamps p s mask .number ≡ unassigned → ⊥
-  pub groups : (b : Book) (log first size hold : List ℕ) → groupsGiven b log first size hold .answer .number ≡ unassigned → ⊥
-  pub read : (file : Bytes) → readOf file .number ≡ unassigned → ⊥
-  pub write : (s : Settings) (bytes room : ℕ) → writeNumber s bytes room ≡ unassigned → ⊥
-  pub play : (file : Bytes) (b : Book) (log : Log) → playOf file b log .number ≡ unassigned → ⊥
-  pub pack : (room : ℕ) → packNumber room ≡ unassigned → ⊥
-  pub unpack : (records : Bytes) (i : ℕ) → recordOf records i .number ≡ unassigned → ⊥
-  pub list : (file out : Bytes) → listingOf file out .answer .number ≡ unassigned → ⊥
-  pub text-in : (s : Settings) (text out : Bytes) → textInOf s text out .answer .number ≡ unassigned → ⊥
-  pub text-out : (file out : Bytes) → textOutOf file out .answer .number ≡ unassigned → ⊥
 
 -- only cells that touch are linked (RULES 1.8, 2.11). Either may be named first, none touches itself, and the unit's numbers and the
 -- lorry's are judged alike; any two cells that a link of a history links touch, in the lorry's numbers

@@ -33,7 +33,7 @@ none-twice : {ls : List Link} {a b : ℕ} {cs : List ℕ} → Trail ls b a cs �
 none-twice (arrive e) fewest i j before within same = omega arith
 none-twice (step h t) fewest i zero before within same = omega arith
 none-twice (step h t) fewest zero (suc j) before within same =
-    let (ds, u, le) = onward t j (le-of-suc-le-suc within) in
+    let (ds, u, le) = onward t j (omega arith) in
     omega (arith, fewest ds (rw same u))
 none-twice {a = a} (step h t) fewest (suc i) (suc j) before within same =
     none-twice t (λ ds u. le-of-suc-le-suc (fewest (a ∷ ds) (step h u))) i j (le-of-suc-le-suc before) (le-of-suc-le-suc within) same
@@ -77,7 +77,7 @@ module _ (n : ℕ) where
   all-marked [] once below = zero-le
   all-marked (c ∷ cs) once below =
       let on : length cs ≤ total (marks cs) n = all-marked cs (rest c cs once) (λ i within. below (suc i) (suc-le-suc within)) in
-      let new : marks cs c ≡ 0 = unmarked cs c (λ i within e. once 0 (suc i) (suc-le-suc zero-le) (suc-le-suc within) (sym e)) in
+      let new : marks cs c ≡ 0 = unmarked cs c (λ i within e. once 0 (suc i) (omega arith) (omega arith) (sym e)) in
       omega (arith, total-put (marks cs) c 1 n (below 0 (suc-le-suc zero-le)))
 
   -- links between cells below n

@@ -16,7 +16,7 @@ use Rattle.pledges.proofs.Single.{single}
 use Rattle.text_list.proofs.Texts.{texts}
 use Rattle.promises.specs.Promise.{Kept}
 use Rattle.promises.proofs.Ends.{code-ends}
-use Rattle.promises.proofs.Routines.{code-refuses, code-table, code-joined, code-files, code-chain, code-lamps, code-listing}
+use Rattle.promises.proofs.Routines.{code-refuses, code-unassigned, code-table, code-joined, code-files, code-chain, code-lamps, code-listing}
 
 pub kept : Kept
 kept =
@@ -40,6 +40,7 @@ kept =
       table = table;
       code-table = code-table;
       unassigned = eight-unassigned;
+      code-unassigned = code-unassigned;
       touching = touching;
       lamps = lamps;
       code-lamps = code-lamps;

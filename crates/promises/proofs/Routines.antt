@@ -25,6 +25,7 @@ use Rattle.demands.proofs.Refused.{refused}
 use Rattle.demands.proofs.FilesRefused.{read-gives, groups-gives, list-gives, unpack-gives, play-read, files-refused}
 use Rattle.demands.proofs.NumbersAgree.{opening-gives, link-gives, clock-gives, joined-gives, chain-gives, number-agrees, asked-agrees}
 use Rattle.demands.proofs.Touching.{apart-agrees}
+use Rattle.demands.proofs.Unassigned.{eight-unassigned}
 use Rattle.demands.proofs.Keeps.{keeps}
 use Rattle.demands.proofs.JoinedIs.{joined-window, joined-steps, joined-few}
 use Rattle.demands.proofs.ChainFits.{fits}
@@ -33,7 +34,7 @@ use Rattle.demands.proofs.LampsAre.{lamps-gives, lamps-number, lamps-fifteen, l
 use Rattle.demands_listing.proofs.ListedCalls.{plays-told}
 use Rattle.demands_listing.proofs.ListedGroups.{groups-told}
 use Rattle.demands_listing.proofs.ListedPrints.{prints-told}
-use Rattle.promises.specs.Routines.{CodeRefuses, LeftByCalls, CodeTable, CodeJoined, CodeFiles, CodeChain, CodeLamps, CodeListed}
+use Rattle.promises.specs.Routines.{CodeRefuses, CodeUnassigned, LeftByCalls, CodeTable, CodeJoined, CodeFiles, CodeChain, CodeLamps, CodeListed}
 use Rattle.promises.proofs.Ends.{code-ends, demanded}
 
 abbrev answerOf : Play → PlayAnswer
@@ -80,6 +81,30 @@ code-refuses =
         λ z n. subst⁻¹ (λ p. (p .number ≡ 0 → ⊥) → Stopped (now (a .1 .1 .0)) 0 (now (a .0)) (now (a .1 .0)) p) (play-read _ _ _ z)
             (files-refused .play _ _ _ _) n,
       );
+    }
+
+pub code-unassigned : CodeUnassigned
+unfolding gives
+code-unassigned =
+    record {
+      kerb-opening = demanded (code-ends .kerb-opening) λ κs a.
+          eight-unassigned .calls (record { book = now (a .0); log = now (a .1 .0) }) (opening (a .1 .1 .0));
+      kerb-link = demanded (code-ends .kerb-link) λ κs a.
+          eight-unassigned .calls (record { book = now (a .0); log = now (a .1 .0) }) (link (a .1 .1 .0) (a .1 .1 .1 .0) (a .1 .1 .1 .1 .0));
+      kerb-clock = demanded (code-ends .kerb-clock) λ κs a.
+          eight-unassigned .calls (record { book = now (a .0); log = now (a .1 .0) }) (clock (a .1 .1 .0));
+      kerb-joined = demanded (code-ends .kerb-joined) λ κs a. eight-unassigned .joined _ _ _;
+      kerb-chain = demanded (code-ends .kerb-chain) λ κs a. eight-unassigned .chain (record { book = now (a .0); log = now (a .1 .0) }) _ _ _;
+      kerb-groups = demanded (code-ends .kerb-groups) λ κs a. eight-unassigned .groups _ _ _ _ _;
+      kerb-lamps = demanded (code-ends .kerb-lamps) λ κs a. eight-unassigned .lamps (record { book = now (a .0); log = now (a .1 .0) }) _;
+      kerb-read = demanded (code-ends .kerb-read) λ κs a. eight-unassigned .read _;
+      kerb-write = demanded (code-ends .kerb-write) λ κs a. eight-unassigned .write _ _ _;
+      kerb-list = demanded (code-ends .kerb-list) λ κs a. eight-unassigned .list _ _;
+      kerb-text-in = demanded (code-ends .kerb-text-in) λ κs a. eight-unassigned .text-in _ _ _;
+      kerb-text-out = demanded (code-ends .kerb-text-out) λ κs a. eight-unassigned .text-out _ _;
+      kerb-pack = demanded (code-ends .kerb-pack) λ κs a. eight-unassigned .pack (length (now (a .1 .1 .1 .0)));
+      kerb-unpack = demanded (code-ends .kerb-unpack) λ κs a. eight-unassigned .unpack (now (a .0)) (a .1 .0);
+      kerb-play = demanded (code-ends .kerb-play) λ κs a. eight-unassigned .play _ _ _;
     }
 
 pub code-table : CodeTable

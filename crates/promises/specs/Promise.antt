@@ -14,7 +14,7 @@ use Rattle.demands.specs.Demands.{AfterCalls, Table, Refused, FilesRefused, Nev
 use Rattle.demands_cases.specs.Cases.{Cases}
 use Rattle.demands_listing.specs.Listed.{Listed}
 use Rattle.pledges.specs.Single.{Single}
-use Rattle.promises.specs.Routines.{CodeEnds, CodeRefuses, CodeTable, CodeJoined, CodeFiles, CodeChain, CodeLamps, CodeListed}
+use Rattle.promises.specs.Routines.{CodeEnds, CodeRefuses, CodeUnassigned, CodeTable, CodeJoined, CodeFiles, CodeChain, CodeLamps, CodeListed}
 
 -- Every call ends and stays inside its memory for all inputs: bad settings, cells, ticks, files, short buffers, altered books. A refused
 -- call gives the number in the table and alters nothing lent to it.
@@ -52,6 +52,7 @@ pub record Kept : Type 2 where
   pub code-table : CodeTable
   -- no call gives 8, whatever it is lent (RULES 7.1)
   pub unassigned : Unassigned ours
+  pub code-unassigned : CodeUnassigned
   -- only cells that touch are linked (RULES 2.11)
   pub touching : Touching
   -- the two lamps, by the history and by joined (RULES 11)

@@ -44,7 +44,7 @@ use Rattle.pledges.specs.Pledges.{with1, with2, with3, with4, with5, EachCall}
 use Rattle.demands.specs.History.{Call, opening, link, clock, History, numberIn, windowOf}
 use Rattle.demands.specs.Implementation.{ours, State, after}
 use Rattle.demands_listing.specs.Listed.{Plays, groupsOutcomeIn, Prints}
-use Rattle.demands.specs.Demands.{roomIn, HasHistory, Stopped, stepsIn, Fits, Answers, LampIs}
+use Rattle.demands.specs.Demands.{roomIn, HasHistory, Stopped, stepsIn, Fits, Answers, unassigned, LampIs}
 
 -- 1. an exported call ends: called with anything, its code ends, touches no memory but its own and what is lent to it, and gives what
 -- the definition says
@@ -108,6 +108,24 @@ pub record CodeRefuses : Type 2 where
       ((r ≡ record { taken = 0; number = readNumber (now file) }) × (now book′ ≡ now book) × (now log′ ≡ now log))
       × (readNumber (now file) ≡ 0 → Refusing (r .number)
       (Stopped (now file) 0 (now book) (now log) (record { book = now book′; log = now log′; number = r .number; taken = r .taken })))
+
+-- the number is never the one that is unassigned, called with anything at all (RULES 7.1)
+pub record CodeUnassigned : Type 2 where
+  pub kerb-opening : CodeMeets openingCall λ κs a r e. r ≡ unassigned → ⊥
+  pub kerb-link : CodeMeets linkCall λ κs a r e. r ≡ unassigned → ⊥
+  pub kerb-clock : CodeMeets clockCall λ κs a r e. r ≡ unassigned → ⊥
+  pub kerb-joined : CodeMeets joinedCall λ κs a r e. r .number ≡ unassigned → ⊥
+  pub kerb-chain : CodeMeets chainCall λ κs a r e. r .number ≡ unassigned → ⊥
+  pub kerb-groups : CodeMeets groupsCall λ κs a r e. r .number ≡ unassigned → ⊥
+  pub kerb-lamps : CodeMeets lampsCall λ κs a r e. r .number ≡ unassigned → ⊥
+  pub kerb-read : CodeMeets readCall λ κs a r e. r .number ≡ unassigned → ⊥
+  pub kerb-write : CodeMeets writeCall λ κs a r e. r ≡ unassigned → ⊥
+  pub kerb-list : CodeMeets listCall λ κs a r e. r .number ≡ unassigned → ⊥
+  pub kerb-text-in : CodeMeets textInCall λ κs a r e. r .number ≡ unassigned → ⊥
+  pub kerb-text-out : CodeMeets textOutCall λ κs a r e. r .number ≡ unassigned → ⊥
+  pub kerb-pack : CodeMeets packCall λ κs a r e. r ≡ unassigned → ⊥
+  pub kerb-unpack : CodeMeets unpackCall λ κs a r e. r .number ≡ unassigned → ⊥
+  pub kerb-play : CodeMeets playCall λ κs a r e. r .number ≡ unassigned → ⊥
 
 -- calls have left this book and this log, and tell this history
 pub record LeftByCalls (b : Book) (log : Log) (h : History) : Type 0 where
