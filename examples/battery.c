@@ -15,6 +15,7 @@ struct state {
 };
 
 struct stored {
+    uint32_t version; /* a book of another version of the library has another layout */
     struct state state;
     uint32_t sum_of_book;
     uint32_t sum_of_log;
@@ -61,15 +62,17 @@ static uint8_t open_and_feed(struct state *state)
 
 static void store(const struct state *state)
 {
+    flash.version = KERB_VERSION;
     flash.state = *state;
     flash.sum_of_book = checksum(&state->book, sizeof state->book);
     flash.sum_of_log = checksum(state->log, sizeof state->log);
 }
 
-/* Whether what was stored is what comes back. */
+/* Whether what was stored is what comes back, and a book of today. */
 static bool is_whole(void)
 {
-    return flash.sum_of_book == checksum(&flash.state.book, sizeof flash.state.book) &&
+    return flash.version == KERB_VERSION &&
+           flash.sum_of_book == checksum(&flash.state.book, sizeof flash.state.book) &&
            flash.sum_of_log == checksum(flash.state.log, sizeof flash.state.log);
 }
 
@@ -98,6 +101,9 @@ int main(void)
     panel = flash.state;
     after = kerb_joined(&panel.book, one, other);
     printf("joined, before and after: %s, %s\n", before.yes ? "yes" : "no", after.yes ? "yes" : "no");
+    flash.version = KERB_VERSION - 1;
+    printf("one that an earlier version has stored is %s\n", is_whole() ? "TAKEN" : "to be opened anew");
+    flash.version = KERB_VERSION;
     if (kerb_link(&panel.book, KERB_PLACES(panel.log), 1000, 100, 164) != KERB_DONE)
         return 1;
 

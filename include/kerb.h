@@ -11,6 +11,16 @@
  *     struct kerb_lamps_answer lamps = kerb_lamps(&book, KERB_PLACES(log), KERB_PLACES(body));
  *     if (lamps.left || lamps.number != KERB_DONE) ...   (light the left lamp)
  *
+ * TICKS GO ROUND: the unit counts milliseconds in 32 bits, and after 4,294,967,295 comes 0. The book keeps the total, the ticks
+ * since T0 with every pass of the counter's end counted; its time is the latest tick that it has taken. A tick's difference is how
+ * far it is ahead of the time as the counter goes: (tick - time) mod 4,294,967,296. Below 2,147,483,648 it is added to the total;
+ * any other tick is refused with 4, as one before the time. The slide of a tick is the total that it makes, divided by B. So A
+ * TICK'S SLIDE DOES NOT FOLLOW FROM THE TICK ALONE: it comes from the total of all that the book has taken since T0.
+ *
+ * CALL kerb_clock AT LEAST ONCE A DAY, while nothing is seen too. After a silence of 24.9 to 49.7 days (2,147,483,648 to
+ * 4,294,967,295 ms) the next tick is refused with 4, and the book has to be opened anew. After a longer one the counter has gone
+ * all the way round, and nothing can see it: a link from before the silence may then count as if it were just seen.
+ *
  * Link with libkerb.a, which wants no more of the C library than memcpy, memmove and memset. Every function answers every input.
  * What it cannot do it refuses by a number of `enum kerb_number`, and then the book and all lent places are as they were and
  * the other fields of the answer are 0 (kerb_play alone keeps the records before the one that it refuses, and kerb_text_in alone
@@ -25,9 +35,9 @@
  *   - the stack has room;
  *   - two threads do not use one book at once, unless both only ask.
  *
- * A book has no padding and no pointer in it: its bytes can be copied, stored over a battery swap and compared. (One of a mirrored
- * unit that was stored before 0.2.2 has its links at other cells, and is to be opened anew; one that was stored before 0.2.3 may hold
- * links of cells that do not touch, which count until they leave the window: docs/BOOK.md.)
+ * A book has no padding and no pointer in it: its bytes can be copied, stored over a battery swap and compared. One that was stored
+ * by an earlier version is worth nothing to this one: it has another size and layout. So a panel stores KERB_VERSION beside the
+ * book, and opens a book anew where another version comes back, or none.
  */
 #ifndef KERB_H
 #define KERB_H
@@ -37,7 +47,7 @@
 #include <stdint.h>
 
 /* The version of this header. A library of another version does not link: see kerb_opening. */
-#define KERB_VERSION 2u
+#define KERB_VERSION 3u
 
 /* A number that nobody looks at is an alarm that nobody hears: the compiler warns where it can. */
 #if defined(__GNUC__) || defined(__clang__)
@@ -74,7 +84,8 @@ enum kerb_number {
     KERB_NO_BOOK = 1,     /* the book was never opened, or was altered beyond its ranges */
     KERB_SETTINGS = 2,    /* n, B or the mounting is outside its values */
     KERB_NO_CELL = 3,     /* a cell is 1024 or more */
-    KERB_EARLY = 4,       /* the tick is before the book's time */
+    KERB_EARLY = 4,       /* the tick is 2,147,483,648 or more ahead of the book's time as the counter goes, which is how a tick
+                             before the time looks; or the total would pass 9,223,372,036,854,775,807 */
     KERB_FULL = 5,        /* the link's slide already holds 256 links */
     KERB_SHORT = 6,       /* a lent buffer is too short */
     KERB_NO_TRAIL = 7,    /* no links of the window chain the two cells */
@@ -98,18 +109,19 @@ struct kerb_settings {
     uint8_t mounting; /* enum kerb_mounting; there is no default */
 };
 
-struct kerb_time {
+/* The total, and the settings that a book keeps of its time; kerb_time gives the time. */
+struct kerb_clock_state {
+    uint64_t total; /* the ticks since t0, every pass of the counter's end counted; at most 9,223,372,036,854,775,807 */
     uint32_t t0;
     uint32_t b;
-    uint32_t time; /* the latest time */
     uint8_t n;
-    uint8_t pad[3];
+    uint8_t pad[7];
 };
 
 /* How the unit is fitted. */
 struct kerb_fitting {
     uint8_t mounting;
-    uint8_t pad[3];
+    uint8_t pad[7];
 };
 
 /* The book. docs/BOOK.md has each field's range; a caller has no need to read or write them. */
@@ -119,7 +131,7 @@ struct kerb_book {
     uint16_t backward_parent[KERB_CELLS];
     uint16_t backward_size[KERB_CELLS];
     uint16_t counts[32];
-    struct kerb_time clock;
+    struct kerb_clock_state clock;
     uint8_t backward_label[KERB_CELLS];
     struct kerb_fitting fitting;
 };
@@ -132,7 +144,8 @@ struct kerb_joined_answer {
 
 struct kerb_chain_answer {
     uint64_t newest; /* L: links of this slide and later ones chain the two, and those of the next slide on do not;
-                        one above the open slide for a cell and itself, which need no link */
+                        one above the open slide for a cell and itself, which need no link. A link is in the slide of the
+                        total that its tick made, which the tick alone does not tell */
     uint16_t cells;  /* how many cells stand at the front of the chain buffer */
     uint8_t hold;    /* for how many further closings the two stay joined; n for a cell and itself: always */
     uint8_t number;
@@ -193,9 +206,11 @@ struct kerb_record_answer {
 };
 
 struct kerb_slide_answer {
-    uint32_t first; /* the slide's ticks, from the first to the last */
+    uint64_t first_total; /* the totals at the slide's first tick and at its last */
+    uint64_t last_total;
+    uint32_t first; /* these two ticks; `last` is below `first` where the counter passes its end in the slide */
     uint32_t last;
-    bool exists; /* whether any tick reaches the slide; else the ticks are 0 */
+    bool exists; /* whether any total reaches the slide; else all are 0 */
 };
 
 /*
@@ -218,26 +233,26 @@ KERB_AT(kerb_settings, b, 4);
 KERB_AT(kerb_settings, n, 8);
 KERB_AT(kerb_settings, mounting, 9);
 
-KERB_SIZE(kerb_time, 16);
-KERB_AT(kerb_time, t0, 0);
-KERB_AT(kerb_time, b, 4);
-KERB_AT(kerb_time, time, 8);
-KERB_AT(kerb_time, n, 12);
-KERB_AT(kerb_time, pad, 13);
+KERB_SIZE(kerb_clock_state, 24);
+KERB_AT(kerb_clock_state, total, 0);
+KERB_AT(kerb_clock_state, t0, 8);
+KERB_AT(kerb_clock_state, b, 12);
+KERB_AT(kerb_clock_state, n, 16);
+KERB_AT(kerb_clock_state, pad, 17);
 
-KERB_SIZE(kerb_fitting, 4);
+KERB_SIZE(kerb_fitting, 8);
 KERB_AT(kerb_fitting, mounting, 0);
 KERB_AT(kerb_fitting, pad, 1);
 
-KERB_SIZE(kerb_book, 9300);
+KERB_SIZE(kerb_book, 9312);
 KERB_AT(kerb_book, forward_parent, 0);
 KERB_AT(kerb_book, forward_size, 2048);
 KERB_AT(kerb_book, backward_parent, 4096);
 KERB_AT(kerb_book, backward_size, 6144);
 KERB_AT(kerb_book, counts, 8192);
 KERB_AT(kerb_book, clock, 8256);
-KERB_AT(kerb_book, backward_label, 8272);
-KERB_AT(kerb_book, fitting, 9296);
+KERB_AT(kerb_book, backward_label, 8280);
+KERB_AT(kerb_book, fitting, 9304);
 
 KERB_SIZE(kerb_joined_answer, 3);
 KERB_AT(kerb_joined_answer, number, 0);
@@ -294,10 +309,12 @@ KERB_AT(kerb_record_answer, one, 4);
 KERB_AT(kerb_record_answer, other, 6);
 KERB_AT(kerb_record_answer, number, 8);
 
-KERB_SIZE(kerb_slide_answer, 12);
-KERB_AT(kerb_slide_answer, first, 0);
-KERB_AT(kerb_slide_answer, last, 4);
-KERB_AT(kerb_slide_answer, exists, 8);
+KERB_SIZE(kerb_slide_answer, 32);
+KERB_AT(kerb_slide_answer, first_total, 0);
+KERB_AT(kerb_slide_answer, last_total, 8);
+KERB_AT(kerb_slide_answer, first, 16);
+KERB_AT(kerb_slide_answer, last, 20);
+KERB_AT(kerb_slide_answer, exists, 24);
 
 #undef KERB_AT
 #undef KERB_SIZE
@@ -309,13 +326,13 @@ KERB_AT(kerb_slide_answer, exists, 8);
  */
 
 /* A book that was never opened: 0 in every byte. kerb_link, kerb_clock, kerb_joined, kerb_chain, kerb_groups and kerb_lamps give 1
-   for it, and so does kerb_play at the first record of a file that the reader takes; its open slide is 0. Stack: 1 KB, and 9.3 KB
-   more where the compiler copies the book. */
+   for it, and so does kerb_play at the first record of a file that the reader takes; its time and its open slide are 0.
+   Stack: 1 KB, and 9.3 KB more where the compiler copies the book. */
 KERB_LOOK_AT struct kerb_book kerb_never_opened(void);
 
 /*
- * A fresh history, whatever the book was: the time is settings.t0, and nothing is stored. Clears the first KERB_LOG_PLACES places
- * of the log and no others. Every byte of the book is written.
+ * A fresh history, whatever the book was: the time is settings.t0, the total is 0, and nothing is stored. Clears the first
+ * KERB_LOG_PLACES places of the log and no others. Every byte of the book is written.
  * Refuses, in this order: 2, 6. Never 1: the book may be any memory. Stack: 5 KB.
  */
 KERB_LOOK_AT uint8_t kerb_opening(struct kerb_book *book, uint16_t *log, size_t log_places, struct kerb_settings settings);
@@ -323,14 +340,17 @@ KERB_LOOK_AT uint8_t kerb_opening(struct kerb_book *book, uint16_t *log, size_t 
 /*
  * A link of two cells that touch, IN THE UNIT'S NUMBERS: different cells, whose rings differ by at most 1 and whose sectors differ by
  * at most 1 round the circle, 63 and 0 being next to each other. Both mountings judge alike. A later tick first moves the time to
- * it, as kerb_clock does; a link that is refused moves nothing. A link may be repeated: each time it is stored and counts.
+ * it, as kerb_clock does; a link that is refused moves nothing. A link may be repeated: each time it is stored and counts. It is
+ * stored in the slide that is then open. Which one that is does not follow from the tick alone: it is the slide of the total.
  * Refuses, in this order: 1, 6, 3, 14, 4, 5. Stack: 5 KB.
  */
 KERB_LOOK_AT uint8_t kerb_link(struct kerb_book *book, uint16_t *log, size_t log_places, uint32_t tick, uint16_t one,
                                uint16_t other);
 
 /*
- * The time moves to the tick, and nothing is logged. Slides that are jumped over are empty ones.
+ * The time moves to the tick, and nothing is logged. The tick's difference is added to the total, and the open slide is that of the
+ * total: which one does not follow from the tick alone. Slides that are jumped over are empty ones. To be called at least once a
+ * day (see the top): a call reaches 2,147,483,647 ticks ahead at most, not quite 24.9 days.
  * Refuses, in this order: 1, 6, 4. Stack: 5 KB.
  */
 KERB_LOOK_AT uint8_t kerb_clock(struct kerb_book *book, const uint16_t *log, size_t log_places, uint32_t tick);
@@ -374,10 +394,17 @@ KERB_LOOK_AT struct kerb_groups_answer kerb_groups(const struct kerb_book *book,
 KERB_LOOK_AT struct kerb_lamps_answer kerb_lamps(const struct kerb_book *book, const uint16_t *log, size_t log_places,
                                                  const uint8_t *mask, size_t mask_bytes);
 
-/* The open slide k, that of the book's time. 0 for a book that was never opened. Stack: 1 KB. */
+/* The book's time, the latest tick that it has taken: (T0 + total) mod 4,294,967,296. The total itself is book->clock.total. 0 for
+   a book that was never opened. Stack: 1 KB. */
+KERB_LOOK_AT uint32_t kerb_time(const struct kerb_book *book);
+
+/* The open slide k, that of the total: it does not follow from the book's time alone. 0 for a book that was never opened.
+   Stack: 1 KB. */
 KERB_LOOK_AT uint64_t kerb_open_slide(const struct kerb_book *book);
 
-/* The ticks of a slide, from the first to the last, as far as ticks reach. For an opened book. Stack: 1 KB. */
+/* The totals of a slide, from the first to the last, as far as totals reach, and the ticks that make them. The same tick makes
+   another total in every turn of the counter, so a tick between these two can be in another slide too. For an opened book.
+   Stack: 1 KB. */
 KERB_LOOK_AT struct kerb_slide_answer kerb_slide_ticks(const struct kerb_book *book, uint64_t slide);
 
 /*
@@ -415,8 +442,9 @@ KERB_LOOK_AT uint8_t kerb_write(struct kerb_settings settings, const uint8_t *re
                                 size_t out_bytes);
 
 /*
- * The records of a link file into a book, one after the other, each by the link call. Does not open the book: who plays a file
- * opens one first, with the settings that kerb_read gives. Stops at the first record that is refused: `taken` is then its
+ * The records of a link file into a book, one after the other, each by the link call: into the slide of the total that its tick
+ * makes, which does not follow from the tick alone, since the records before it count too. Does not open the book: who plays a
+ * file opens one first, with the settings that kerb_read gives. Stops at the first record that is refused: `taken` is then its
  * place from 0, and THE RECORDS BEFORE IT STAY in the book.
  * Refuses, in this order: 9, 10, 11, 12, 2 as kerb_read, with nothing played; then for each record 1, 6, 3, 14, 4, 5.
  * Stack: 5 KB.
@@ -426,7 +454,8 @@ KERB_LOOK_AT struct kerb_play_answer kerb_play(struct kerb_book *book, uint16_t 
 
 /*
  * The text that the program kerblist prints for a link file, at the front of the output; no byte beyond is touched, and no zero
- * byte ends it. A file that is refused is a line of the text ("refused 9 file"), and the number is 0 all the same.
+ * byte ends it. A file that is refused is a line of the text ("refused 9 file"), and the number is 0 all the same. The open slide
+ * in it is that of the total, and does not follow from the last tick alone.
  * Refuses: 6, an output under KERB_LISTING_BYTES. Stack: 88 KB.
  */
 KERB_LOOK_AT struct kerb_list_answer kerb_list(const uint8_t *file, size_t file_bytes, uint8_t *out, size_t out_bytes);
@@ -470,21 +499,21 @@ KERB_LOOK_AT struct kerb_text_out_answer kerb_text_out(const uint8_t *file, size
 
 /*
  * THE VERSION. A library has the function of its own version and of no other, and opening a book calls it: a program that was
- * compiled with this header does not link with a library of another version ("undefined reference to kerb_version_2").
+ * compiled with this header does not link with a library of another version ("undefined reference to kerb_version_3").
  * kerb_version() gives KERB_VERSION, kerb_book_size() sizeof(struct kerb_book).
  */
-uint32_t kerb_version_2(void);
-#define kerb_version kerb_version_2
+uint32_t kerb_version_3(void);
+#define kerb_version kerb_version_3
 
 size_t kerb_book_size(void);
 
-KERB_LOOK_AT static inline uint8_t kerb_opening_2(struct kerb_book *book, uint16_t *log, size_t log_places,
+KERB_LOOK_AT static inline uint8_t kerb_opening_3(struct kerb_book *book, uint16_t *log, size_t log_places,
                                                   struct kerb_settings settings)
 {
-    (void)kerb_version_2();
+    (void)kerb_version_3();
     return kerb_opening(book, log, log_places, settings);
 }
-#define kerb_opening kerb_opening_2
+#define kerb_opening kerb_opening_3
 
 /* A number in words. */
 static inline const char *kerb_status_text(uint8_t number)
@@ -499,7 +528,7 @@ static inline const char *kerb_status_text(uint8_t number)
     case KERB_NO_CELL:
         return "a cell is 1024 or more";
     case KERB_EARLY:
-        return "the tick is before the book's time";
+        return "the tick is before the book's time, or 2,147,483,648 or more after it, which looks the same; or the total has run out";
     case KERB_FULL:
         return "the link's slide already holds 256 links";
     case KERB_SHORT:

@@ -836,8 +836,8 @@ unfolding code.routine tablesOf
 
 
 # ---- this project's structs, and the functions over a book
-CLOCK = Struct('slides', 'Clock', [('t0', 'u32'), ('b', 'u32'), ('time', 'u32'), ('n', 'u8'), ('pad', ('array', 'u8', 3))])
-FITTING = Struct('cells', 'Fitting', [('mounting', 'u8'), ('pad', ('array', 'u8', 3))])
+CLOCK = Struct('slides', 'Clock', [('total', 'u64'), ('t0', 'u32'), ('b', 'u32'), ('n', 'u8'), ('pad', ('array', 'u8', 7))])
+FITTING = Struct('cells', 'Fitting', [('mounting', 'u8'), ('pad', ('array', 'u8', 7))])
 BOOK = Struct('book_state', 'Book', [
     ('forward_parent', ('array', 'u16', 1024)), ('forward_size', ('array', 'u16', 1024)), ('backward_parent', ('array', 'u16', 1024)),
     ('backward_size', ('array', 'u16', 1024)), ('counts', ('array', 'u16', 32)), ('clock', ('struct', CLOCK)),
@@ -850,7 +850,7 @@ LAMPS_ANSWER = Struct('lamps', 'LampsAnswer', [('left_cell', 'u16'), ('right_cel
 GROUPS_ANSWER = Struct('groups', 'GroupsAnswer', [('links', 'u32'), ('number', 'u8')])
 PLAY_ANSWER = Struct('file_play', 'PlayAnswer', [('taken', 'u32'), ('number', 'u8')])
 PLAYED_FIELDS = Struct('file_play', 'PlayedFields', [('clock', ('struct', CLOCK)), ('fitting', ('struct', FITTING)), ('answer', ('struct', PLAY_ANSWER))])
-SLIDE_TICKS = Struct('slides', 'SlideTicks', [('first', 'u32'), ('last', 'u32'), ('exists', 'bool')])
+SLIDE_TICKS = Struct('slides', 'SlideTicks', [('first_total', 'u64'), ('last_total', 'u64'), ('first', 'u32'), ('last', 'u32'), ('exists', 'bool')])
 
 ARRAYS = ['counts', 'forward_parent', 'forward_size', 'backward_parent', 'backward_size', 'backward_label']
 # the fields in the order in which the functions over lent fields take them
@@ -866,6 +866,9 @@ SPECS = {
     'kerb_slide_ticks': dict(
         crate='kerb_slides', fn='kerb_slide_ticks', struct=BOOK, ref='shr', callee=('slides', 'ticks'), params=[('num', 'slide', 'u64')], args=[('load', 'clock'), ('num', 'slide')], lifetimes=[],
         answer=('struct', SLIDE_TICKS), uses=['use Rattle.slides.specs.Clock.{ticksOf}'], ensured='r ≡ ticksOf (h .clock) slide', says='e'),
+    'kerb_time': dict(
+        crate='kerb_time', fn='kerb_time', struct=BOOK, ref='shr', callee=('slides', 'time'), params=[], args=[('load', 'clock')], lifetimes=[], answer='u32',
+        uses=['use Rattle.slides.specs.Clock.{timeOf}'], ensured='r ≡ timeOf (h .clock)', says='e'),
     'kerb_link': dict(
         crate='kerb_time', fn='kerb_link', struct=BOOK, ref='mut', callee=('book_link', 'link'),
         params=[('slice-mut', 'log', 'u16'), ('num', 'tick', 'u32'), ('num', 'one', 'u16'), ('num', 'other', 'u16')],

@@ -91,7 +91,7 @@ link-room b log tick one other e =
     place = omega (arith, place-below (b .clock) (r .n-least) (slideOf (b .clock) tick), r .n-most)
 
     spot-then : openSpot (movedBook b log tick .clock) ≡ spotThen b tick
-    spot-then = rw (moved-clock b log tick, moved-slide (b .clock) tick (t .later), moved-place (b .clock) tick, moved-n (b .clock) tick)
+    spot-then = rw (moved-clock b log tick, moved-slide (b .clock) tick, moved-place (b .clock) tick, moved-n (b .clock) tick)
 
 -- ---- a book that was never opened: link and clock give 1 for it
 

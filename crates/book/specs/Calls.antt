@@ -61,7 +61,8 @@ openingOf b log s = openingByNumber (openingNumber s log) b log s
 
 -- ---- link: 1, 6, 3, 14, 4, 5
 
--- given whether the book is in order, its clock, and how many links the link's slide holds
+-- given whether the book is in order, its clock, and how many links the link's slide holds: that of the total which its tick makes, and so
+-- no matter of the tick alone (RULES 2.4)
 abbrev pub linkNumberIn : (ordered : Bool) (clock : Clock) (held : ℕ) (log : Log) (tick : Tick) (one other : Cell) → Number
 linkNumberIn ordered clock held log tick one other =
     firstOf
@@ -109,7 +110,7 @@ linkStored b log one other =
       number = 0;
     }
 
--- the time moves first; links arrive in the unit's numbers and are stored in the lorry's
+-- the time moves first, and the link is in the slide that is open then; links arrive in the unit's numbers and are stored in the lorry's
 unfoldable pub linkByNumber : (number : Number) (book : Book) (log : Log) (tick : Tick) (one other : Cell) → Outcome
 linkByNumber zero b log tick one other =
     linkStored (movedBook b log tick) log (lorryCell (b .fitting) one) (lorryCell (b .fitting) other)

@@ -16,7 +16,7 @@ pub struct FieldsAnswer {
     pub number: u8,
 }
 
-// The time moves to the tick, and nothing is logged.
+// The time moves to the tick, and nothing is logged. Which slide is open then does not follow from the tick alone (RULES 2.4).
 pub fn clock(
     clock: slides::Clock,
     fitting: Fitting,

@@ -1,5 +1,5 @@
-// The link call: number 1 first, then the other checks; a link that is taken moves the time and is stored in the open slide. What it gives is
-// defined with the other calls (crates/book/specs/Calls.antt).
+// The link call: number 1 first, then the other checks; a link that is taken moves the time and is stored in the slide that is open then. Which
+// one that is does not follow from the tick alone (RULES 2.4). What the call gives is defined with the other calls (crates/book/specs/Calls.antt).
 use book::fields::FieldsAnswer;
 use book_state::STEP_LIMIT;
 use book_state::are_cells;

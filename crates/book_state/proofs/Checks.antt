@@ -53,6 +53,10 @@ ordered b e =
     let w₁ = and-eq-true-iff t h .0 (w₂ .0) in
     record { timely = w₁ .0; held = w₁ .1; few = w₂ .1; forward = w₃ .1; backward = w₄ .1; labels = w₅ .1 }
 
+-- so its clock is in range
+pub in-order-range : (b : Book) → inOrder b ≡ true → InRange (b .clock)
+in-order-range b e = in-range (b .clock) .0 (ordered b e .timely)
+
 -- the test of the counts, for a spot within them or beyond
 pub counts-few : (counts : List ℕ) → every (within 0 257) 0 counts ≡ true → (spot : ℕ) → getD counts spot 0 ≤ 256
 counts-few counts e spot = within-or-beyond (decLt spot (length counts))
@@ -67,12 +71,11 @@ few-counts counts few = each-every (within 0 257) counts (λ spot h. within-both
 
 pub readable : (b : Book) (log : List ℕ) → inOrder b ≡ true → has logPlaces log ≡ true → Readable (b .clock .n) (b .counts) log
 readable b log e room =
-    let o = ordered b e in
-    let clock : InRange (b .clock) = in-range (b .clock) .0 (o .timely) in
+    let clock : InRange (b .clock) = in-order-range b e in
     record {
       n-least = clock .n-least;
       n-most = clock .n-most;
-      few = counts-few (b .counts) (o .few);
+      few = counts-few (b .counts) (ordered b e .few);
       long = leb-true _ _ (sym (has-length logPlaces log) ∙ room);
     }
 

@@ -51,7 +51,7 @@ neverOpened =
       «backward_parent» = replicate places 0;
       «backward_size» = replicate places 0;
       counts = replicate 32 0;
-      clock = record { t0 = 0; b = 0; time = 0; n = 0; pad = replicate 3 0 };
+      clock = record { total = 0; t0 = 0; b = 0; n = 0; pad = replicate 7 0 };
       «backward_label» = replicate places 0;
-      fitting = record { mounting = 0; pad = replicate 3 0 };
+      fitting = record { mounting = 0; pad = replicate 7 0 };
     }

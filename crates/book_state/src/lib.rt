@@ -23,7 +23,7 @@ pub fn are_cells(one: u16, other: u16) -> bool
     other < CELLS
 }
 
-// The settings and the latest time, the links stored in each place of the last two chunks, and the two forests.
+// The settings and the total of the ticks, the links stored in each place of the last two chunks, and the two forests.
 #[repr(C)]
 pub struct Book {
     // forward forest of the open chunk
@@ -44,15 +44,15 @@ pub fn never_opened() -> Book
     ensures { λ r. ⌜ r ≡ neverOpened ⌝ }
 {
     let clock = slides::Clock {
+        total: 0,
         t0: 0,
         b: 0,
-        time: 0,
         n: 0,
-        pad: [0; 3],
+        pad: [0; 7],
     };
     let fitting = cells::Fitting {
         mounting: 0,
-        pad: [0; 3],
+        pad: [0; 7],
     };
     Book {
         forward_parent: [0; PLACES],

@@ -60,7 +60,8 @@ pub fn move_to(
         backward_size,
         backward_label,
     );
-    if after != before + 1 {
+    // Time never moves back, and the number of the next chunk need not fit where a book is altered.
+    if after - before != 1 {
         *counts = [0; 32];
         return moved;
     }

@@ -9,7 +9,7 @@ pub struct Fitting {
     // 1 plain, 2 mirrored; 0 means that it was never set
     pub mounting: u8,
     // no meaning: every byte is a field's, so that none is left undefined
-    pub pad: [u8; 3],
+    pub pad: [u8; 7],
 }
 
 // The lorry's number of a mirrored unit's cell: in the same ring, sector (64 - s) mod 64. A number that is no cell comes back

@@ -11,7 +11,7 @@ use lib.ListN.{length}
 use Rattle.numbers.specs.Front.{atFront}
 use Rattle.numbers.specs.Kinds.{Cell, Counts, Label, Log, Number}
 use Rattle.graph.specs.Trail.{trailOf}
-use Rattle.slides.specs.Clock.{openSlide}
+use Rattle.slides.specs.Clock.{totalMost, openSlide}
 use Rattle.slides.specs.declared.Clock.{Clock}
 use Rattle.book_state.specs.declared.Book.{Book}
 use Rattle.book_state.specs.Arrays.{cells}
@@ -81,6 +81,7 @@ pub record GivesChain (o : ChainOutcome) (answer : ChainAnswer) (chain : List Ce
 -- what the checks 1, 6 and 3 leave known
 pub record ChecksPassed (clock : Clock) (counts : Counts) (log : Log) (chain : List Cell) (one other : Cell) : Type 0 where
   pub readable : Readable (clock .n) counts log
+  pub total-most : clock .total ≤ totalMost
   pub chain-room : chainPlaces ≤ length chain
   pub one-cell : one < cells
   pub other-cell : other < cells

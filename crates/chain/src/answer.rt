@@ -3,7 +3,7 @@ use super::ChainAnswer;
 use slides::Clock;
 ghost use mathlib.Core.Path.{_≡_};
 ghost use Prim.Native.Nat.{_+_, _-_, _≤_, _<_};
-ghost use Rattle.slides.specs.Clock.{slideLimit};
+ghost use Rattle.slides.specs.Clock.{totalMost};
 ghost use Rattle.chain_fewest.specs.Best.{TrailGiven};
 ghost use Rattle.chain.specs.Chain.{labelOf, chainCells, windowChain, GivesChain, ChecksPassed};
 
@@ -42,7 +42,7 @@ pub fn answer(
 
 // The answer for open slide k and the label: L is k + label - n, and the hold is one less than the label.
 fn answered(k: u64, n: u8, label: u8, cells: u16) -> ChainAnswer
-    requires slide { ⌜ k < slideLimit ⌝ }
+    requires slide { ⌜ k ≤ totalMost ⌝ }
     requires begun { ⌜ n ≤ k + label ⌝ }
     requires joined { ⌜ 1 ≤ label ⌝ }
     ensures { λ r. ⌜ r ≡ record { newest = k + label - n; cells = cells; hold = label - 1; number = 0 } ⌝ }

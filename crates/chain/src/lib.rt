@@ -11,7 +11,7 @@ ghost use Rattle.chain.specs.Chain.{chainOf, GivesChain};
 // What the chain call gives; with a number that is not 0 all else is 0.
 #[repr(C)]
 pub struct ChainAnswer {
-    // L, the newest slide from which on links chain the two
+    // L, the newest slide from which on links chain the two. A slide is told by its total: the ticks come again (RULES 2.4)
     pub newest: u64,
     // the number of cells of the chain
     pub cells: u16,

@@ -7,8 +7,9 @@
 use Prim.Native.Nat.{ℕ, suc, _+_, _-_, _≤_, _<_, zero-le}
 use mathlib.Core.Path.{_≡_, refl, _∙_, ap, subst, subst⁻¹}
 use mathlib.Core.Bool.{Bool, true, false}
-use mathlib.Core.List.{List, [], _∷_, _++_}
+use mathlib.Core.List.{List, [], _∷_, _++_, map}
 use mathlib.Core.Logic.{_↔_}
+use mathlib.Core.Option.{some}
 use native.Mathlib.Omega.{arith}
 use native.Mathlib.Nat.{le-refl}
 use native.Mathlib.Decide.{decLe, ℕ-discrete}
@@ -22,24 +23,23 @@ use Rattle.graph.specs.Trail.{Best}
 use Rattle.graph.proofs.Chains.{Relinks, chained-relink, chained-alone, chains-true, true-chains, chains-false}
 use Rattle.graph.proofs.Trails.{best-same, best-relink}
 use Rattle.graph.proofs.Finder.{trailOf-best, best-trailOf}
-use Rattle.slides.specs.Clock.{notBefore, slideOf}
 use Rattle.numbers.specs.Checks.{firstOf, unless, has}
 use Rattle.book_state.specs.Numbers.{areCells}
 use Rattle.book_joined.specs.Joined.{joinedOf}
 use Rattle.window.specs.Window.{windowLinks, linksFromLabel}
 use Rattle.window.proofs.Highest.{chained-highest, highest-chained, highest-most}
 use Rattle.chain.specs.Chain.{ChainOutcome, chainPlaces, labelOf, chainCells, chainNumber, chainByNumber}
-use Rattle.demands.specs.History.{clock, History, openSlideIn, windowOf, linksSince, numberIn, added, addedByNumber}
-use Rattle.demands.specs.Implementation.{ours, State, stateOf, gives, after, givesChain}
-use Rattle.demands.specs.Demands.{ChainGiven, DifferentCells, Itself, Answers, Chain}
+use Rattle.demands.specs.History.{clock, History, historyFrom, openSlideIn, windowOf, linksSince}
+use Rattle.demands.specs.Implementation.{ours, State, after, givesChain}
+use Rattle.demands.specs.Demands.{roomIn, ChainGiven, DifferentCells, Itself, Answers, Chain}
 use Rattle.demands.specs.Agrees.{Agrees}
 use Rattle.demands.proofs.Lists.{same-test}
 use Rattle.numbers.proofs.Checks.{first-last, passes}
 use Rattle.demands.proofs.NumbersAgree.{chain-gives}
 use Rattle.demands.proofs.ChainFits.{chain-done, fits}
 use Rattle.demands.proofs.InOrder.{agrees-in-order}
-use Rattle.demands.proofs.Keeps.{step, keeps}
-use Rattle.demands.proofs.Closings.{closed, window-then, closed-now, closed-fewer, closed-since}
+use Rattle.demands.proofs.Keeps.{keeps, keeps-on}
+use Rattle.demands.proofs.Closings.{closed, clocks-quiet, window-then, closed-now, closed-fewer, closed-since}
 use Rattle.demands.proofs.Window.{none-above, book-window, window-book}
 use Rattle.demands.proofs.JoinedIs.{joined-window}
 
@@ -194,13 +194,11 @@ module _ {h : History} {s : State} (agrees : Agrees h s) (one other : ℕ) where
           cell = take-append-seam path (drop (length path) chain) ∙ best-trailOf (best-same e);
         }
 
-    -- c closings later, where a tick reaches that slide
-    later-joined : areCells one other ≡ true → (c tick : ℕ) → slideOf (h .clock) tick ≡ openSlideIn h + c → notBefore (h .clock) tick ≡ true →
-        (joinedOf (gives ours s (clock tick) .book) one other .yes ≡ true) ↔ Chained (closed h c) one other
-    unfolding numberIn addedByNumber added
-    later-joined are c tick e later =
-        rw (← e, ← (window-then h tick later))
-        (joined-window (subst (λ b. Agrees (addedByNumber (unless b 4) h (clock tick)) (stateOf (gives ours s (clock tick)))) later (step agrees (clock tick))) one other are)
+    -- c closings later, where clock calls reach that slide
+    later-joined : areCells one other ≡ true → (c : ℕ) (ticks : List ℕ) (later : History) → historyFrom (roomIn s) (some h) (map clock ticks) ≡ some later →
+        openSlideIn later ≡ openSlideIn h + c → (joinedOf (after ours s (map clock ticks) .book) one other .yes ≡ true) ↔ Chained (closed h c) one other
+    later-joined are c ticks later told e =
+        rw (← e, ← (window-then (clocks-quiet (roomIn s) ticks h later told))) (joined-window (keeps-on agrees (map clock ticks) later told) one other are)
 
     given-apart : areCells one other ≡ true → 0 < label → (one ≡ other → ⊥) → DifferentCells ours s h one other (given .answer)
     given-apart are l different =
@@ -209,9 +207,9 @@ module _ {h : History} {s : State} (agrees : Agrees h s) (one other : ℕ) where
           largest = largest;
           few = omega (arith, label-most different);
           closings = λ c. (λ x. omega (arith, closed-is different c .0 x), λ le. label-closed c (omega arith));
-          clocks = λ c tick e later. (
-            λ x. omega (arith, closed-is different c .0 (later-joined are c tick e later .0 x)),
-            λ le. later-joined are c tick e later .1 (label-closed c (omega arith)),
+          clocks = λ c ticks later told e. (
+            λ x. omega (arith, closed-is different c .0 (later-joined are c ticks later told e .0 x)),
+            λ le. later-joined are c ticks later told e .1 (label-closed c (omega arith)),
           );
         }
       where

@@ -1,9 +1,10 @@
 -- The windows to come, if nothing is logged: c closings after the open slide k, the window is that of the history at slide k + c.
 -- Each closing takes the links of one slide away, so the window at k + c has the links of slides k + c + 1 - n to k.
-use Prim.Native.Nat.{ℕ, _+_, _≤_, _<_}
-use mathlib.Core.Path.{_≡_, ap, ap₂}
-use mathlib.Core.Bool.{true, _&&_, and-eq-true-iff}
-use mathlib.Core.List.{List}
+use Prim.Native.Nat.{ℕ, zero, suc, _+_, _≤_, _<_}
+use mathlib.Core.Path.{_≡_, refl, ap, ap₂, _∙_, subst}
+use mathlib.Core.Bool.{Bool, _&&_, and-eq-true-iff}
+use mathlib.Core.List.{List, [], _∷_, map}
+use mathlib.Core.Option.{some, Option·some-injective}
 use mathlib.Core.Logic.{_↔_}
 use native.Mathlib.Omega.{arith}
 use native.Mathlib.Nat.{add-zero}
@@ -11,9 +12,8 @@ use lib.Dec.{leb}
 use borrow.Author.Tests.{le-leb, lt-ltb, ltb-true, leb-true}
 use Rattle.graph.specs.Link.{Link}
 use Rattle.graph.proofs.Chains.{Relinks}
-use Rattle.slides.specs.Clock.{notBefore, slideOf}
-use Rattle.slides.proofs.Slides.{moved-n, moved-slide}
-use Rattle.demands.specs.History.{History, openSlideIn, ofSlides, withTime, linksOf, inWindow, windowAt, windowOf, linksSince}
+use Rattle.slides.proofs.Slides.{moved-n}
+use Rattle.demands.specs.History.{clock, History, openSlideIn, ofSlides, numberIn, added, addedByNumber, oneMore, historyFrom, linksOf, inWindow, windowAt, windowOf, linksSince}
 use Rattle.demands.specs.Agrees.{Sensible}
 use Rattle.demands.proofs.Lists.{same-test, same-slides}
 use Rattle.demands.proofs.BySlide.{of-slide, in-slide}
@@ -25,10 +25,27 @@ closed h c = linksOf (windowAt h (openSlideIn h + c))
 pub closed-now : (h : History) → closed h 0 ≡ windowOf h
 closed-now h = ap (λ k. linksOf (windowAt h k)) (add-zero (openSlideIn h))
 
--- once time has moved to a tick, the window is the one at the slide of the tick
-pub window-then : (h : History) (tick : ℕ) → notBefore (h .clock) tick ≡ true → windowOf (withTime h tick) ≡ linksOf (windowAt h (slideOf (h .clock) tick))
-window-then h tick later =
-    ap₂ (λ n k. linksOf (ofSlides (inWindow n k) (h .links))) (moved-n (h .clock) tick) (moved-slide (h .clock) tick later)
+-- clock calls log nothing and leave n as it is, whether they are taken or refused
+pub record Quiet (h later : History) : Type 0 where
+  pub same-n : later .clock .n ≡ h .clock .n
+  pub same-links : later .links ≡ h .links
+
+clock-quiet : (h : History) (tick k : ℕ) → Quiet h (addedByNumber k h (clock tick))
+unfolding addedByNumber added
+clock-quiet h tick zero = record { same-n = moved-n (h .clock) tick; same-links = refl }
+clock-quiet h tick (suc k) = record { same-n = refl; same-links = refl }
+
+pub clocks-quiet : (room : Bool) (ticks : List ℕ) (h later : History) → historyFrom room (some h) (map clock ticks) ≡ some later → Quiet h later
+unfolding historyFrom oneMore
+clocks-quiet room [] h later told = subst (Quiet h) (Option·some-injective h later told) (record { same-n = refl; same-links = refl })
+clocks-quiet room (t ∷ ts) h later told =
+    let one = clock-quiet h t (numberIn room h (clock t)) in
+    let rest = clocks-quiet room ts (addedByNumber (numberIn room h (clock t)) h (clock t)) later told in
+    record { same-n = rest .same-n ∙ one .same-n; same-links = rest .same-links ∙ one .same-links }
+
+-- so the window after them is the one at the slide that is open then
+pub window-then : {h later : History} → Quiet h later → windowOf later ≡ linksOf (windowAt h (openSlideIn later))
+window-then {h} {later} q = ap₂ (λ n links. linksOf (ofSlides (inWindow n (openSlideIn later)) links)) (q .same-n) (q .same-links)
 
 module _ {h : History} (sensible : Sensible h) where
   -- fewer closings leave more links

@@ -112,7 +112,7 @@ module _ {h : History} {s : State} (a : Agrees h s) where
       (link-agrees (time-agrees a tick later) (lorryLink h one other)
       (lorry-is-cell sectors (h .fitting .mounting) one (two .0))
       (lorry-is-cell sectors (h .fitting .mounting) other (two .1))
-      (rw (moved-slide (h .clock) tick later, ← (stored-agrees a tick later)) (t .few)))
+      (rw (moved-slide (h .clock) tick, ← (stored-agrees a tick later)) (t .few)))
     where
       later : notBefore (h .clock) tick ≡ true
       later = rw (a .clock) at (t .later)
@@ -155,3 +155,9 @@ keeps-from (c ∷ cs) s o h f e =
 pub keeps : AfterCalls ours λ s h. Agrees h s
 unfolding Fits
 keeps s cs h told = keeps-from cs s none h tt told
+
+-- and further calls go on so
+pub keeps-on : {h : History} {s : State} → Agrees h s → (cs : List Call) (later : History) → historyFrom (roomIn s) (some h) cs ≡ some later
+    → Agrees later (after ours s cs)
+unfolding Fits
+keeps-on {h} {s} a cs later told = keeps-from cs s (some h) later a told

@@ -44,7 +44,7 @@ module _ {h : History} {s : State} (a : Agrees h s) (tick : ℕ) (later : notBef
   chunk-same = moved-chunk (h .clock) tick
 
   later-slide : openSlideIn h ≤ openSlideIn then
-  later-slide = rw (moved-slide (h .clock) tick later) (slide-later (h .clock) tick later)
+  later-slide = rw (moved-slide (h .clock) tick) (slide-later (h .clock) tick)
 
   time-sensible : Sensible then
   time-sensible =
@@ -165,7 +165,7 @@ module _ {h : History} {s : State} (a : Agrees h s) (tick : ℕ) (later : notBef
   chunk-before = rw (a .clock)
 
   chunk-after : chunkOf (s .book .clock) (slideOf (s .book .clock) tick) ≡ chunkIn then
-  chunk-after = rw (a .clock) (ap (λ t. t / h .clock .n) (sym (moved-slide (h .clock) tick later)) ∙ sym (chunk-same (openSlideIn then)))
+  chunk-after = rw (a .clock) (ap (λ t. t / h .clock .n) (sym (moved-slide (h .clock) tick)) ∙ sym (chunk-same (openSlideIn then)))
 
   pub time-agrees : Agrees then (record { book = movedBook (s .book) (s .log) tick; log = s .log })
   time-agrees =

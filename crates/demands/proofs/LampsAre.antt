@@ -8,12 +8,12 @@ use Prim.Native.Nat.{ℕ, suc, _≤_, _<_}
 use mathlib.Core.Path.{_≡_, refl, sym, ap, _∙_}
 use mathlib.Core.Bool.{Bool, true, false, true≢false, and-eq-true-iff}
 use mathlib.Core.List.{List}
-use mathlib.Core.Logic.{_↔_, _⊎_}
+use mathlib.Core.Logic.{_↔_, Iff·trans, _⊎_}
 use native.Mathlib.Omega.{arith}
 use lib.ListN.{length, getD}
 use borrow.Author.Tests.{lt-ltb, eqb-true}
 use Rattle.numbers.specs.Checks.{unless}
-use Rattle.numbers.proofs.Checks.{passes, first-last}
+use Rattle.numbers.proofs.Checks.{passes, first-last, checked}
 use Rattle.graph.specs.Link.{Linked}
 use Rattle.cells.specs.Cell.{sectors, ringOf, sectorOf}
 use Rattle.book_state.specs.declared.Book.{Book}
@@ -66,14 +66,7 @@ module _ {h : History} {s : State} (agrees : Agrees h s) where
 
   pub lamps-fifteen : (mask : List ℕ) →
       (givesLamps ours s mask .number ≡ 15) ↔ ((length mask < cells) ⊎ ((i : ℕ) × (i < cells) × (1 < getD mask i 0)))
-  lamps-fifteen mask = (
-    λ e. no-mask cells mask .0 (refused (isMask cells mask) (sym (lamps-number mask) ∙ e)),
-    λ w. lamps-number mask ∙ ap (λ t. unless t 15) (no-mask cells mask .1 w),
-  )
-    where
-      refused : (t : Bool) → unless t 15 ≡ 15 → t ≡ false
-      refused true e = absurd (omega arith)
-      refused false e = refl
+  lamps-fifteen mask = rw (lamps-number mask) (Iff·trans (checked 15 refl (isMask cells mask)) (no-mask cells mask))
 
   -- ---- the links of the window
 

@@ -6,6 +6,7 @@ pub mod Closings
 pub mod Counts
 pub mod FilesRefused
 pub mod Forests
+pub mod Histories
 pub mod InOrder
 pub mod JoinedIs
 pub mod Keeps
@@ -22,6 +23,7 @@ pub mod Split
 pub mod Spots
 pub mod Steps
 pub mod Table
+pub mod TimeIs
 pub mod Touching
 pub mod Unassigned
 pub mod Window

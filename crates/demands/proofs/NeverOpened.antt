@@ -8,7 +8,8 @@ use lib.Dec.{eqb}
 use borrow.Author.Tests.{ne-eqb}
 use Rattle.numbers.specs.Checks.{unless}
 use Rattle.numbers.proofs.Checks.{fails}
-use Rattle.slides.specs.Clock.{slideOf}
+use Rattle.slides.specs.Counter.{counterAt}
+use Rattle.slides.specs.Clock.{openSlide}
 use Rattle.book_state.specs.Order.{neverOpened, inOrder}
 use Rattle.book_state.proofs.Checks.{never-in-order}
 use Rattle.book_joined.proofs.Never.{never-joined}
@@ -44,7 +45,7 @@ never-play file zero log = refl
 never-play file (suc m) log = rw (never-record file 0 log, ne-eqb (suc m) 0 (λ e. omega arith))
 
 pub never-opened : NeverOpened
-unfolding slideOf neverOpened
+unfolding openSlide counterAt neverOpened
 never-opened =
     record {
       link = λ log tick one other. link-gives _ _ _ _ _ ∙ never-link log tick one other;
@@ -55,4 +56,5 @@ never-opened =
       lamps = λ log mask. lamps-gives _ _ _ ∙ never-lamps log mask;
       play = λ file log e. play-read file neverOpened log e ∙ never-play file (readOf file .m) log;
       open-slide = refl;
+      time = refl;
     }

@@ -82,7 +82,7 @@ module _ {h : History} {s : State} (a : Agrees h s) where
       go (no d) =
           rw (ne-eqb _ _ d)
           (ap howMany (sym (none-later (a .sensible .falling) (λ t. eqb t slide)
-          (λ t l. fails _ (λ e. d (ap (λ u. u / n) (omega (arith, slide-later (h .clock) tick later, eqb-true t slide e))))))))
+          (λ t l. fails _ (λ e. d (ap (λ u. u / n) (omega (arith, slide-later (h .clock) tick, eqb-true t slide e))))))))
 
   -- ---- the numbers
 

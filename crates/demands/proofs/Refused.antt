@@ -5,17 +5,18 @@
 -- 16,384 places. A link stands at a spot below 32 after a count below 256, so both its entries are below 16,384.
 use Prim.Native.Nat.{ℕ, zero, suc, _+_, _<_}
 use mathlib.Core.Path.{_≡_, refl, _∙_}
-use mathlib.Core.Bool.{Bool, true, false, _&&_, and-eq-true-iff}
+use mathlib.Core.Bool.{false}
 use mathlib.Core.List.{List}
 use native.Mathlib.Omega.{arith}
 use lib.ListN.{set, drop, replicate, length-replicate}
 use lib.Seq.{drop-at, drop-set-lt}
 use Rattle.settings.specs.declared.Settings.{Settings}
 use Rattle.slides.specs.Clock.{slideOf, chunkOf, placeOf}
-use Rattle.slides.proofs.Slides.{InRange, in-range, moved-n, moved-place, moved-slide, place-below}
+use Rattle.slides.proofs.Slides.{InRange, moved-n, moved-place, moved-slide, place-below}
 use Rattle.book_state.specs.declared.Book.{Book}
 use Rattle.book_state.specs.Log.{halfOf, spotOf, startOf}
-use Rattle.book_state.specs.Order.{inOrder, inOrderOf}
+use Rattle.book_state.specs.Order.{inOrder}
+use Rattle.book_state.proofs.Checks.{in-order-range}
 use Rattle.book_state.specs.Numbers.{logPlaces}
 use Rattle.book_joined.specs.Joined.{joinedNumber, joinedByNumber, joinedOf}
 use Rattle.book.specs.Calls.{Outcome, openingNumber, openingByNumber, openingOf, linkNumber, linkStored, linkByNumber, linkOf, clockNumber, clockByNumber, clockOf}
@@ -29,14 +30,6 @@ use Rattle.demands.specs.Implementation.{ours, State, gives, givesChain,
 use Rattle.demands.specs.Demands.{Refused}
 use Rattle.book.proofs.Taken.{Taken, taken}
 use Rattle.book_time.proofs.Moves.{moved-clock, moved-count}
-
-and-left : (a b : Bool) → (a && b) ≡ true → a ≡ true
-and-left a b e = and-eq-true-iff a b .0 e .0
-
--- a book in order has its clock in range
-in-order-range : (b : Book) → inOrder b ≡ true → InRange (b .clock)
-unfolding inOrderOf
-in-order-range b e = in-range (b .clock) .0 (and-left _ _ (and-left _ _ (and-left _ _ (and-left _ _ (and-left _ _ e)))))
 
 -- ---- a number that is not 0
 
@@ -123,7 +116,7 @@ link-beyond zero b log tick one other e =
     let r : InRange (b .clock) = in-order-range b (t .in-order) in
     let slide : ℕ = slideOf (b .clock) tick in
     let p : placeOf (b .clock) slide < 16 = omega (arith, place-below (b .clock) (r .n-least) slide) in
-    rw (moved-clock b log tick, moved-slide (b .clock) tick (t .later), moved-place, moved-n)
+    rw (moved-clock b log tick, moved-slide (b .clock) tick, moved-place, moved-n)
     (pair-beyond logPlaces log _ _ _ (pair-below (chunkOf (b .clock) slide) _ _ p (rw (moved-count b log tick p) (t .few))))
 link-beyond (suc k) b log tick one other e = refl
 

@@ -3,15 +3,11 @@
 -- Before 14 a link asks whether both are cells, and so 14 is given exactly when they are and do not touch (`apart-told`). A link that was
 -- taken has passed that check in the unit's numbers, and by the law of both mountings the lorry's touch too. A history has the links
 -- that were taken, since an opening starts without any and no other call adds one.
-use Prim.Native.Nat.{ℕ, zero, suc}
-use mathlib.Core.Path.{_≡_, refl, sym, _∙_, subst}
-use mathlib.Core.Bool.{Bool, true, false, true≢false, false≢true}
-use mathlib.Core.List.{List, [], _∷_}
+use Prim.Native.Nat.{ℕ}
+use mathlib.Core.Path.{_≡_, refl, _∙_}
+use mathlib.Core.Bool.{Bool, true, false}
 use mathlib.Core.Logic.{_↔_}
-use mathlib.Core.Option.{Option, none, some}
-use native.Mathlib.Omega.{arith}
 use lib.Dec.{ltb}
-use Rattle.numbers.specs.Checks.{firstOf, unless}
 use Rattle.graph.specs.Link.{Linked, along, against, here, there}
 use Rattle.graph.proofs.Forests.{nothing-linked}
 use Rattle.settings.specs.declared.Settings.{Settings}
@@ -22,7 +18,7 @@ use Rattle.cells.specs.declared.Fitting.{Fitting}
 use Rattle.slides.specs.Clock.{notBefore, slideOf}
 use Rattle.book_state.specs.Numbers.{areCells}
 use Rattle.book_state.proofs.Checks.{two-cells}
-use Rattle.numbers.proofs.Checks.{first-passed, unless-passed}
+use Rattle.numbers.proofs.Checks.{first-passed, unless-passed, never-asked, never-last, asked-here, asked-later}
 use Rattle.demands.specs.History.{
   Call,
   opening,
@@ -37,35 +33,24 @@ use Rattle.demands.specs.History.{
   lorryLink,
   withLink,
   added,
-  addedByNumber,
-  firstByNumber,
-  oneMore,
-  historyFrom,
   linksOf,
 }
 use Rattle.demands.specs.Implementation.{ours, State, gives}
 use Rattle.demands.specs.Demands.{Touching}
 use Rattle.demands.specs.Agrees.{Agrees}
 use Rattle.demands.proofs.NumbersAgree.{number-agrees}
+use Rattle.demands.proofs.Histories.{every-history}
 
 -- ---- number 14
-
--- by the four checks of a link
-by-checks : (cells touching later few : Bool) →
-    (firstOf (unless cells 3 ∷ unless touching 14 ∷ unless later 4 ∷ unless few 5 ∷ []) ≡ 14) ↔ ((cells ≡ true) × (touching ≡ false))
-unfolding firstOf
-by-checks false touching later few = (λ e. absurd (omega arith), λ p. absurd (false≢true (p .0)))
-by-checks true false later few = (λ e. (refl, refl), λ p. refl)
-by-checks true true false few = (λ e. absurd (omega arith), λ p. absurd (true≢false (p .1)))
-by-checks true true true false = (λ e. absurd (omega arith), λ p. absurd (true≢false (p .1)))
-by-checks true true true true = (λ e. absurd (omega arith), λ p. absurd (true≢false (p .1)))
 
 apart-told : (room : Bool) (h : History) (tick one other : ℕ) →
     (numberIn room h (link tick one other) ≡ 14) ↔ ((areCells one other ≡ true) × (touch one other ≡ false))
 unfolding numberIn
 apart-told room h tick one other =
-    by-checks (areCells one other) (touch one other) (notBefore (h .clock) tick)
-    (ltb (howMany (slideLinks (slideOf (h .clock) tick) (h .links))) 256)
+    asked-later 14 refl (areCells one other) 2 _ refl
+    (asked-here 14 refl (touch one other) _
+    (never-asked 14 refl (notBefore (h .clock) tick) 4 _ refl
+    (never-asked 14 refl (ltb (howMany (slideLinks (slideOf (h .clock) tick) (h .links))) 256) 5 _ refl (never-last 14 refl))))
 
 pub apart-agrees : {h : History} {s : State} → Agrees h s → (tick one other : ℕ) →
     (gives ours s (link tick one other) .number ≡ 14) ↔ ((areCells one other ≡ true) × (touch one other ≡ false))
@@ -82,11 +67,6 @@ alike fitting one other are =
 -- every link is one of cells that touch
 abbrev AllTouch : History → Type 0
 AllTouch h = (one other : ℕ) → Linked one other (linksOf (h .links)) → touch one other ≡ true
-
--- in the history so far, if there is one
-SoFar : Option History → Type 0
-SoFar none = Unit {0}
-SoFar (some h) = AllTouch h
 
 begun-touch : (s : Settings) → AllTouch (begun s)
 begun-touch s one other l = absurd (nothing-linked l)
@@ -111,34 +91,11 @@ module _ (room : Bool) (h : History) (so-far : AllTouch h) where
   added-touch (link tick one other) e = link-touch tick one other e
   added-touch (clock tick) e = so-far
 
-  step-touch : (c : Call) (k : ℕ) → numberIn room h c ≡ k → AllTouch (addedByNumber k h c)
-  unfolding addedByNumber
-  step-touch c zero e = added-touch c e
-  step-touch c (suc k) e = so-far
-
-first-touch : (s : Settings) (k : ℕ) → SoFar (firstByNumber k s)
-unfolding SoFar firstByNumber
-first-touch s zero = begun-touch s
-first-touch s (suc k) = tt
-
-more-touch : (room : Bool) (o : Option History) (c : Call) → SoFar o → SoFar (oneMore room o c)
-unfolding SoFar oneMore
-more-touch room none (opening s) so-far = first-touch s _
-more-touch room none (link tick one other) so-far = tt
-more-touch room none (clock tick) so-far = tt
-more-touch room (some h) c so-far = step-touch room h so-far c _ refl
-
-all-touch : (room : Bool) (cs : List Call) (o : Option History) (h : History) → SoFar o → historyFrom room o cs ≡ some h → AllTouch h
-unfolding SoFar historyFrom
-all-touch room [] o h so-far told = subst SoFar told so-far
-all-touch room (c ∷ cs) o h so-far told = all-touch room cs (oneMore room o c) h (more-touch room o c so-far) told
-
 pub touching : Touching
-unfolding SoFar
 touching =
     record {
       symmetric = touch-symmetric sectors;
       itself = touch-itself sectors;
       mountings = alike;
-      linked = λ room cs h told. all-touch room cs none h tt told;
+      linked = λ room cs h told. every-history AllTouch room begun-touch (λ h c e so-far. added-touch room h so-far c e) cs h told;
     }

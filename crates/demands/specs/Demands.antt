@@ -1,14 +1,14 @@
 -- What the customer demands of any implementation, after any calls from any book and log (RULES 10.5). A history is what the calls
 -- and the table tell (History); there is one once an opening has given 0.
-use Prim.Native.Nat.{ℕ, _+_, _*_, _≤_, _<_}
+use Prim.Native.Nat.{ℕ, _+_, _-_, _*_, _/_, _^_, _%_, _≤_, _<_}
 use mathlib.Core.Path.{_≡_}
 use mathlib.Core.Logic.{_↔_, _⊎_}
 use mathlib.Core.Bool.{Bool, true, false}
-use mathlib.Core.List.{List, [], _∷_}
+use mathlib.Core.List.{List, [], _∷_, _++_, map}
 use mathlib.Core.Option.{some}
 use lib.Dec.{eqb}
 use lib.ListN.{length, getD, take, drop}
-use Rattle.numbers.specs.Kinds.{Bytes, Cell, Log, Number}
+use Rattle.numbers.specs.Kinds.{Bytes, Cell, Log, Number, Slide, Tick}
 use Rattle.graph.specs.Link.{Linked, Chained, chains}
 use Rattle.graph.specs.Trail.{Best, NoneTwice}
 use Rattle.graph.specs.Forest.{Forest, forestOf, walk, walkAt, parentAt}
@@ -17,7 +17,8 @@ use Rattle.settings.specs.declared.Settings.{Settings}
 use Rattle.cells.specs.Cell.{sectors, ringOf, sectorOf, lorryCell}
 use Rattle.cells.specs.Touching.{touch}
 use Rattle.cells.specs.declared.Fitting.{Fitting}
-use Rattle.slides.specs.Clock.{notBefore, slideOf, openSlide}
+use Rattle.slides.specs.Counter.{tickLimit, halfTurn, ahead}
+use Rattle.slides.specs.Clock.{totalMost, timeOf, openSlide}
 use Rattle.book_state.specs.declared.Book.{Book}
 use Rattle.book_state.specs.Order.{neverOpened}
 use Rattle.book.specs.Calls.{linkOf, clockOf}
@@ -48,9 +49,13 @@ use Rattle.demands.specs.History.{
   link,
   clock,
   History,
+  historyFrom,
   historyOf,
   numberIn,
   openSlideIn,
+  latestOf,
+  latestIn,
+  totalIn,
   linksOf,
   windowAt,
   windowOf,
@@ -222,11 +227,13 @@ pub record DifferentCells (p : Implementation) (s : State) (h : History) (one ot
   pub chained : Chained (linksSince h (answer .newest)) one other
   pub largest : (l : ℕ) → answer .newest < l → Chained (linksSince h l) one other → ⊥
   pub few : answer .hold < h .clock .n
-  -- a closing raises k by one, even where no tick could still reach that slide (RULES 5.6)
+  -- a closing raises k by one, even where no total could still reach that slide (RULES 5.6)
   pub closings : (c : ℕ) → Chained (linksOf (windowAt h (openSlideIn h + c))) one other ↔ (c ≤ answer .hold)
-  -- where a tick does reach it, joined gives the same answer after the clock call with that tick
-  pub clocks : (c tick : ℕ) → slideOf (h .clock) tick ≡ openSlideIn h + c → notBefore (h .clock) tick ≡ true →
-      (p .joinedGives (gives p s (clock tick) .book) one other .yes ≡ true) ↔ (c ≤ answer .hold)
+  -- where clock calls reach it, by one tick or by several (one reaches less than 2^31 ticks ahead, RULES 2.3), joined gives the same
+  -- answer after them
+  pub clocks : (c : ℕ) (ticks : List ℕ) (later : History) → historyFrom (roomIn s) (some h) (map clock ticks) ≡ some later →
+      openSlideIn later ≡ openSlideIn h + c →
+      (p .joinedGives (after p s (map clock ticks) .book) one other .yes ≡ true) ↔ (c ≤ answer .hold)
 
 -- for a cell and itself the chain is that one cell, L is taken as k + 1, and the hold is n, read as "always" (RULES 5.8)
 pub record Itself (h : History) (one : ℕ) (o : ChainOutcome) : Type 0 where
@@ -257,6 +264,59 @@ pub record Chain (p : Implementation) : Type 0 where
   pub answers : AfterCalls p λ s h. (chain : List ℕ) → has chainPlaces chain ≡ true → (one other : ℕ) → areCells one other ≡ true →
       Answers p s h chain one other (givesChain p s chain one other)
   pub fits : (s : State) (chain : List ℕ) (one other : ℕ) → givesChain p s chain one other .answer .number ≡ 0 → Fits (givesChain p s chain one other)
+
+-- a tick is refused: it is half a turn of the counter or more ahead of the latest that was accepted, or the total has no room for it
+-- (RULES 2.3)
+abbrev pub TooEarly : (history : History) (tick : Tick) → Type 0
+TooEarly h tick = (halfTurn ≤ ahead (latestIn h) tick) ⊎ (totalMost < totalIn h + ahead (latestIn h) tick)
+
+-- ticks that never fall, from T0 on; the newest at the front
+pub data Rising (t0 : ℕ) : List ℕ → Type 0 where
+  none : Rising t0 []
+  next : {t : ℕ} {ts : List ℕ} → latestOf t0 ts ≤ t → Rising t0 ts → Rising t0 (t ∷ ts)
+
+-- the open slide after an opening with T0 0 and B 10, and clock calls with these ticks
+abbrev pub slideAfter : (implementation : Implementation) (state : State) (ticks : List Tick) → Slide
+slideAfter p s ticks =
+    openSlide (after p s (opening (record { t0 = 0; b = 10; n = 3; mounting = 1 }) ∷ map clock ticks) .book .clock)
+
+-- a tick's slide does not follow from the tick alone (RULES 2.4): tick 5 is of slide 0, and of another slide each time the counter comes
+-- round to it
+pub record NotAlone (p : Implementation) (s : State) : Type 0 where
+  pub first-turn : slideAfter p s (5 ∷ []) ≡ 0
+  pub second-turn : slideAfter p s (2147483647 ∷ 4294967294 ∷ 5 ∷ []) ≡ 429496730
+
+-- clock calls with these ticks, each of 32 bits, open the slide that is c closings on
+pub record Reached (room : Bool) (h : History) (c : ℕ) : Type 0 where
+  pub ticks : List ℕ
+  pub fit : (i : ℕ) → getD ticks i 0 < tickLimit
+  pub later : History
+  pub told : historyFrom room (some h) (map clock ticks) ≡ some later
+  pub slide : openSlideIn later ≡ openSlideIn h + c
+
+-- the time: what a tick means, by the ticks that were accepted since the opening (RULES 2.3, 2.4)
+pub record Time (p : Implementation) : Type 0 where
+  -- the book's total is the sum of their differences, and its time is the latest of them
+  pub total : AfterCalls p λ s h. s .book .clock .total ≡ totalIn h
+  pub time : AfterCalls p λ s h. timeOf (s .book .clock) ≡ latestIn h % tickLimit
+  -- the total never falls
+  pub rises : AfterCalls p λ s h. (tick one other : ℕ) →
+      (s .book .clock .total ≤ gives p s (clock tick) .book .clock .total) × (s .book .clock .total ≤ gives p s (link tick one other) .book .clock .total)
+  -- 4, exactly when
+  pub clock-four : AfterCalls p λ s h. (tick : ℕ) → (gives p s (clock tick) .number ≡ 4) ↔ TooEarly h tick
+  pub link-four : AfterCalls p λ s h. (tick one other : ℕ) →
+      (gives p s (link tick one other) .number ≡ 4) ↔ ((areCells one other ≡ true) × (touch one other ≡ true) × TooEarly h tick)
+  -- the open slide is that of the total; a link that is taken is stored there (History, `withLink`)
+  pub slide : AfterCalls p λ s h. openSlideIn h ≡ totalIn h / h .clock .b
+  -- so it does not follow from the tick alone; it does where ticks never pass the end of the counter
+  pub not-alone : (s : State) → roomIn s ≡ true → NotAlone p s
+  pub plain : AfterCalls p λ s h. Rising (h .clock .t0) (h .ticks) → latestIn h < tickLimit →
+      openSlideIn h ≡ (latestIn h - h .clock .t0) / h .clock .b
+  -- a slide and the one after it always have a number of 64 bits
+  pub numbered : AfterCalls p λ s h. openSlideIn h + 1 < 2 ^ 64
+  -- every slide to come that some total reaches is reached by clock calls
+  pub reached : AfterCalls p λ s h. (c : ℕ) → (openSlideIn h + c) * h .clock .b ≤ totalMost →
+      Reached (roomIn s) h c
 
 -- only cells that touch are linked (RULES 1.8, 2.11). Either may be named first, none touches itself, and the unit's numbers and the
 -- lorry's are judged alike; any two cells that a link of a history links touch, in the lorry's numbers
@@ -303,7 +363,7 @@ pub record Lamps (p : Implementation) : Type 0 where
       LampIs p s h mask (rightZone sectors) (givesLamps p s mask .right) (givesLamps p s mask .«right_cell»)
 
 -- a book that was never opened: all but playing give 1, whatever the log; playing gives it at record 0, where there is one, and its
--- open slide is 0 (RULES 7.8). A file that the reader refuses is not played (FilesRefused)
+-- open slide and its time are 0 (RULES 7.8). A file that the reader refuses is not played (FilesRefused)
 pub record NeverOpened : Type 0 where
   pub link : (log : Log) (tick one other : ℕ) → linkOf neverOpened log tick one other .number ≡ 1
   pub clock : (log : Log) (tick : ℕ) → clockOf neverOpened log tick .number ≡ 1
@@ -314,3 +374,4 @@ pub record NeverOpened : Type 0 where
   pub play : (file : Bytes) (log : Log) → readNumber file ≡ 0 →
       playOf file neverOpened log ≡ record { book = neverOpened; log = log; number = unless (eqb (readOf file .m) 0) 1; taken = 0 }
   pub open-slide : openSlide (neverOpened .clock) ≡ 0
+  pub time : timeOf (neverOpened .clock) ≡ 0

@@ -1,14 +1,15 @@
--- What has happened, told by the calls and the table (RULES 7) and never by a book: the clock, the fitting, and each accepted
--- link with its slide and the lorry's cells. The window (RULES 2) and the two forests (RULES 3) are defined on it.
+-- What has happened, told by the calls and the table (RULES 7) and never by a book: the clock, the fitting, each accepted tick, and each
+-- accepted link with its slide and the lorry's cells. The window (RULES 2) and the two forests (RULES 3) are defined on it.
 --
 -- The clock is that of the crate slides. An opening starts it, links and clock calls move it, by the definitions that move a
--- book's clock; so what a tick means is said in that crate alone.
+-- book's clock; so what a tick means is said in that crate alone. The total is told by the ticks too, without a clock (`totalIn`), and that
+-- the two are one is a demand (Demands, `Time`).
 use Prim.Native.Nat.{ℕ, zero, suc, _+_, _/_, _%_}
 use mathlib.Core.Bool.{Bool, cond, _&&_}
 use mathlib.Core.List.{List, [], _∷_, map, reverse}
 use mathlib.Core.Option.{Option, none, some}
 use lib.Dec.{eqb, leb, ltb}
-use Rattle.numbers.specs.Kinds.{Cell, Number, Slide, Tick}
+use Rattle.numbers.specs.Kinds.{Cell, Number, Slide, Tick, Total}
 use Rattle.graph.specs.Link.{Link}
 use Rattle.graph.specs.Forest.{Labelled}
 use Rattle.settings.specs.Settings.{takenNumber, fittingOf}
@@ -16,6 +17,7 @@ use Rattle.settings.specs.declared.Settings.{Settings}
 use Rattle.cells.specs.Cell.{lorryCell}
 use Rattle.cells.specs.Touching.{touch}
 use Rattle.cells.specs.declared.Fitting.{Fitting}
+use Rattle.slides.specs.Counter.{ahead}
 use Rattle.slides.specs.Clock.{notBefore, slideOf, openSlide, started, movedTo}
 use Rattle.slides.specs.declared.Clock.{Clock}
 use Rattle.numbers.specs.Checks.{firstOf, unless}
@@ -36,6 +38,8 @@ pub record Stored : Type 0 where
 pub record History : Type 0 where
   pub clock : Clock
   pub fitting : Fitting
+  -- the ticks of the link and clock calls that gave 0, the newest at the front too
+  pub ticks : List Tick
   pub links : List Stored
 
 -- the open slide k (RULES 2.4)
@@ -76,11 +80,11 @@ numberIn room h (clock tick) = unless (notBefore (h .clock) tick) 4
 
 -- a fresh history (RULES 2.13)
 abbrev pub begun : Settings → History
-begun s = record { clock = started s; fitting = fittingOf s; links = [] }
+begun s = record { clock = started s; fitting = fittingOf s; ticks = []; links = [] }
 
 -- time moves (RULES 2.6, 2.7)
 abbrev pub withTime : (history : History) (tick : Tick) → History
-withTime h tick = record { clock = movedTo (h .clock) tick; fitting = h .fitting; links = h .links }
+withTime h tick = record { clock = movedTo (h .clock) tick; fitting = h .fitting; ticks = tick ∷ h .ticks; links = h .links }
 
 -- links arrive in the unit's numbers and are stored in the lorry's (RULES 1.6)
 abbrev pub lorryLink : (history : History) (one other : Cell) → Link
@@ -90,7 +94,7 @@ lorryLink h one other =
 -- a link more, in the open slide (RULES 2.6)
 abbrev pub withLink : History → Link → History
 withLink h l =
-    record { clock = h .clock; fitting = h .fitting; links = record { slide = openSlideIn h; link = l } ∷ h .links }
+    record { clock = h .clock; fitting = h .fitting; ticks = h .ticks; links = record { slide = openSlideIn h; link = l } ∷ h .links }
 
 -- the history after a call that gave 0
 unfoldable pub added : History → Call → History
@@ -121,6 +125,24 @@ historyFrom room h (c ∷ cs) = historyFrom room (oneMore room h c) cs
 
 abbrev pub historyOf : (room : Bool) (calls : List Call) → Option History
 historyOf room cs = historyFrom room none cs
+
+-- ---- the total, told by the ticks alone
+
+-- the latest of the accepted ticks, and T0 where there is none yet (RULES 2.3)
+unfoldable pub latestOf : (t0 : Tick) (ticks : List Tick) → Tick
+latestOf t0 [] = t0
+latestOf t0 (t ∷ ts) = t
+
+-- the sum of their differences, each from the tick before it (RULES 2.3)
+unfoldable pub sumOf : (t0 : Tick) (ticks : List Tick) → Total
+sumOf t0 [] = 0
+sumOf t0 (t ∷ ts) = sumOf t0 ts + ahead (latestOf t0 ts) t
+
+abbrev pub latestIn : History → Tick
+latestIn h = latestOf (h .clock .t0) (h .ticks)
+
+abbrev pub totalIn : History → Total
+totalIn h = sumOf (h .clock .t0) (h .ticks)
 
 -- ---- the window and the forests
 

@@ -1,4 +1,4 @@
--- The worked cases (RULES 9): P1 to P12 and our own O1 to O5, as one script under one statement. Each step of the script is a call
+-- The worked cases (RULES 9): P1 to P12 and our own O1 to O6, as one script under one statement. Each step of the script is a call
 -- with its number or a question with its whole answer; and that is what `ours` gives, the implementation that the contracts cite,
 -- from every book and every log that is long enough.
 --
@@ -16,7 +16,8 @@ use Rattle.settings.specs.Settings.{takenNumber, fittingOf}
 use Rattle.settings.specs.declared.Settings.{Settings}
 use Rattle.cells.specs.Cell.{lorryCellOver}
 use Rattle.cells.specs.Touching.{touchOver}
-use Rattle.slides.specs.Clock.{notBefore, slideOf, placeOf, started, movedTo, clockInRange}
+use Rattle.slides.specs.Counter.{ahead, counterAt}
+use Rattle.slides.specs.Clock.{notBefore, totalWith, slideOf, openSlide, placeOf, started, movedTo, clockInRange}
 use Rattle.forest.specs.Arrays.{countFrom}
 use Rattle.forest_check.specs.Sound.{every}
 use Rattle.book_state.specs.declared.Book.{Book}
@@ -190,6 +191,18 @@ script =
     ∷ call (link 30 0 2) 14
     ∷ call (link 30 0 1) 4
     ∷ chain 64 127 (64 ∷ 63 ∷ 0 ∷ 127 ∷ []) 4 2
+    -- O6: the counter goes round; half a turn is refused, one tick less is taken, and tick 4 comes twice, in two slides (RULES 9.13)
+    ∷ opens 3 10 4294967290 1
+    ∷ links 4294967295 1 2
+    ∷ links 4 2 3
+    ∷ chain 1 3 (1 ∷ 2 ∷ 3 ∷ []) 0 1
+    ∷ call (link 4294967295 1 2) 4
+    ∷ call (clock 2147483652) 4
+    ∷ ticks 2147483651
+    ∷ joined 1 3 false 0
+    ∷ ticks 2
+    ∷ links 4 1 2
+    ∷ chain 1 2 (1 ∷ 2 ∷ []) 429496730 2
     ∷ [])
 
 -- what an opening that is taken leaves, whatever book and log it was given
@@ -214,7 +227,7 @@ later = drop 1 script
 
 -- for any log places from 16,384 on
 computed : (rest : Log) → given (record { book = emptied (started settings) (fittingOf settings); log = replicate logPlaces 0 ++ rest }) later ≡ stated later
-unfolding given stated gives openingOf linkOf clockOf joinedOf chainOf openingNumber openingByNumber stored linkNumber linkStored linkByNumber clockNumber clockByNumber parentSteps parentStepsAt stepLinks fourWalks joinedNumber joinedByNumber chainNumber chainByNumber highest windowLinks linksFromAge atLeast trailOf firstOf has cleared emptied stayed backwardOf turned movedByChunk movedBook inOrderOf linksAt chunkLinks united unitedAll every countFrom notBefore slideOf placeOf movedTo clockInRange lorryCellOver touchOver climb chains
+unfolding given stated gives openingOf linkOf clockOf joinedOf chainOf openingNumber openingByNumber stored linkNumber linkStored linkByNumber clockNumber clockByNumber parentSteps parentStepsAt stepLinks fourWalks joinedNumber joinedByNumber chainNumber chainByNumber highest windowLinks linksFromAge atLeast trailOf firstOf has cleared emptied stayed backwardOf turned movedByChunk movedBook inOrderOf linksAt chunkLinks united unitedAll every countFrom ahead counterAt notBefore totalWith slideOf openSlide placeOf movedTo clockInRange lorryCellOver touchOver climb chains
 computed rest = refl
 
 -- whatever book and log they start from

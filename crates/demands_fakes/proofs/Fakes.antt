@@ -1,8 +1,8 @@
 -- The demands shut the fakes out (RULES 10.5).
 --
 -- For each fake there is a short script of calls after which a demand forbids its answer. A fake whose joined or chain is at fault
--- changes books and logs as ours does, and ours gives 0 there; so its answer is the fault. Where the link is at fault, the answer of
--- the fake's book is computed.
+-- changes books and logs as ours does, and ours gives 0 there; so its answer is the fault. Where the link or the clock is at fault, the
+-- answer of the fake's book is computed.
 use Prim.Native.Nat.{ℕ, zero, suc, _+_, _≤_, _<_}
 use mathlib.Core.Path.{_≡_, refl, sym, _∙_, ap}
 use mathlib.Core.Bool.{Bool, true, false, cond, not, _&&_, and-eq-true-iff, false≢true}
@@ -19,7 +19,8 @@ use Rattle.graph.proofs.Chains.{linked-sym, chained-one, chains-false}
 use Rattle.graph.proofs.Forests.{nothing-linked}
 use Rattle.settings.specs.Settings.{fittingOf}
 use Rattle.settings.specs.declared.Settings.{Settings}
-use Rattle.slides.specs.Clock.{notBefore, slideOf, placeOf, started, movedTo, clockInRange}
+use Rattle.slides.specs.Counter.{ahead, counterAt}
+use Rattle.slides.specs.Clock.{notBefore, totalWith, slideOf, openSlide, placeOf, started, movedTo, clockInRange}
 use Rattle.cells.specs.Cell.{sectors, lorryCellOver}
 use Rattle.cells.specs.Touching.{touchOver}
 use Rattle.cells.specs.Touching.Laws.{touch-itself}
@@ -36,7 +37,7 @@ use Rattle.book_joined.specs.declared.JoinedAnswer.{JoinedAnswer}
 use Rattle.book_joined.specs.Joined.{parentSteps, parentStepsAt, stepLinks, fourWalks, joinedNumber, joinedByNumber, joinedOf}
 use Rattle.book.specs.Calls.{openingNumber, openingByNumber, openingOf, linkNumber, linkStored, linkByNumber, linkOf, clockNumber, clockByNumber, clockOf}
 use Rattle.chain.specs.Chain.{ChainOutcome, chainPlaces}
-use Rattle.demands.specs.History.{Call, opening, link, clock, History, begun, withTime, withLink, historyFrom, oneMore, firstByNumber, ofSlides, howMany, numberIn, added, addedByNumber, windowOf}
+use Rattle.demands.specs.History.{Call, opening, link, clock, History, latestOf, sumOf, totalIn, begun, withTime, withLink, historyFrom, oneMore, firstByNumber, ofSlides, howMany, numberIn, added, addedByNumber, windowOf}
 use Rattle.window_ends.specs.Ends.{isEnd}
 use Rattle.window_ends.proofs.Laws.{linked-end}
 use Rattle.lamps.specs.Mask.{isMask, isBody}
@@ -45,9 +46,9 @@ use Rattle.lamps.specs.Lamps.{onBody, lights}
 use Rattle.lamps.proofs.Search.{true-some, lit}
 use Rattle.demands.specs.Implementation.{Implementation, ours, State, stateOf, gives, after, givesChain, givesLamps}
 use Rattle.demands_cases.specs.Cases.{callsOf, p11Calls}
-use Rattle.demands.specs.Demands.{HasHistory, Table, stepsIn, Joined, Chain, Lights, Lamps}
+use Rattle.demands.specs.Demands.{HasHistory, Table, stepsIn, Joined, Chain, TooEarly, Time, Lights, Lamps}
 use Rattle.demands.specs.WindowIs.{heldLinks}
-use Rattle.demands_fakes.specs.Fakes.{refusing, whereDone, withJoined, fixedJoined, inventive, withChain, fixedChain, chainless, forgetful, idle, reaching, LampsFault, withLamps, alwaysDark, alwaysLit, swapped, ownByte, unlinked, lampBelow, largest}
+use Rattle.demands_fakes.specs.Fakes.{refusing, whereDone, withJoined, fixedJoined, inventive, withChain, fixedChain, chainless, forgetful, idle, reaching, turnless, shortTotal, LampsFault, withLamps, alwaysDark, alwaysLit, swapped, ownByte, unlinked, lampBelow, largest}
 use Rattle.demands.proofs.Table.{table}
 use Rattle.demands.proofs.JoinedIs.{joined}
 use Rattle.demands.proofs.ChainIs.{chain}
@@ -177,7 +178,7 @@ not-chainless c =
 -- ---- a link of a cell with itself
 
 itself-taken : gives reaching (after reaching start opened) (link 0 5 5) .number ≡ 0
-unfolding after gives openingOf linkOf openingNumber openingByNumber stored linkNumber linkStored linkByNumber firstOf has emptied inOrderOf every countFrom notBefore slideOf placeOf clockInRange touchOver climb
+unfolding after gives openingOf linkOf openingNumber openingByNumber stored linkNumber linkStored linkByNumber firstOf has emptied inOrderOf every countFrom ahead counterAt notBefore totalWith slideOf openSlide placeOf clockInRange touchOver climb
 itself-taken = refl
 
 pub not-reaching : Table reaching → ⊥
@@ -195,15 +196,15 @@ abbrev more : (history : History) (tick one other : ℕ) → History
 more h tick one other = withLink (withTime h tick) (record { one = one; other = other })
 
 told-linked : HasHistory start linked (more (begun settings) 0 1 2)
-unfolding historyFrom oneMore firstByNumber firstOf has numberIn addedByNumber added notBefore slideOf movedTo howMany ofSlides lorryCellOver touchOver
+unfolding historyFrom oneMore firstByNumber firstOf has numberIn addedByNumber added ahead counterAt notBefore totalWith slideOf openSlide movedTo howMany ofSlides lorryCellOver touchOver
 told-linked = refl
 
 chained-linked : Chained (windowOf (more (begun settings) 0 1 2)) 1 2
-unfolding ofSlides notBefore slideOf movedTo
+unfolding ofSlides ahead counterAt notBefore totalWith slideOf openSlide movedTo
 chained-linked = chained-one (here (along refl refl))
 
 not-stored : joinedOf (after forgetful start linked .book) 1 2 .yes ≡ false
-unfolding after gives whereDone openingOf linkOf clockOf joinedOf openingNumber openingByNumber stored linkNumber linkStored linkByNumber clockNumber clockByNumber parentSteps parentStepsAt stepLinks fourWalks joinedNumber joinedByNumber firstOf has cleared emptied stayed backwardOf turned movedByChunk movedBook inOrderOf linksAt chunkLinks united unitedAll every countFrom notBefore slideOf placeOf movedTo clockInRange lorryCellOver touchOver climb chains
+unfolding after gives whereDone openingOf linkOf clockOf joinedOf openingNumber openingByNumber stored linkNumber linkStored linkByNumber clockNumber clockByNumber parentSteps parentStepsAt stepLinks fourWalks joinedNumber joinedByNumber firstOf has cleared emptied stayed backwardOf turned movedByChunk movedBook inOrderOf linksAt chunkLinks united unitedAll every countFrom ahead counterAt notBefore totalWith slideOf openSlide placeOf movedTo clockInRange lorryCellOver touchOver climb chains
 not-stored = refl
 
 pub not-forgetful : Joined forgetful → ⊥
@@ -216,19 +217,64 @@ abbrev then : History
 then = withTime (withTime (more (more (more (more (more (begun settings) 0 1 2) 10 2 3) 20 3 4) 30 5 6) 45 4 5) 50) 60
 
 told-then : HasHistory start p11Calls then
-unfolding callsOf historyFrom oneMore firstByNumber firstOf has numberIn addedByNumber added notBefore slideOf movedTo howMany ofSlides lorryCellOver touchOver
+unfolding callsOf historyFrom oneMore firstByNumber firstOf has numberIn addedByNumber added ahead counterAt notBefore totalWith slideOf openSlide movedTo howMany ofSlides lorryCellOver touchOver
 told-then = refl
 
 chained-then : Chained (windowOf then) 4 5
-unfolding ofSlides notBefore slideOf movedTo
+unfolding ofSlides ahead counterAt notBefore totalWith slideOf openSlide movedTo
 chained-then = chained-one (here (along refl refl))
 
 idle-then : joinedOf (after idle start p11Calls .book) 4 5 .yes ≡ false
-unfolding callsOf after gives whereDone openingOf linkOf clockOf joinedOf openingNumber openingByNumber stored linkNumber linkStored linkByNumber clockNumber clockByNumber parentSteps parentStepsAt stepLinks fourWalks joinedNumber joinedByNumber firstOf has cleared emptied stayed backwardOf turned movedByChunk movedBook inOrderOf linksAt chunkLinks united unitedAll every countFrom notBefore slideOf placeOf movedTo clockInRange lorryCellOver touchOver climb chains
+unfolding callsOf after gives whereDone openingOf linkOf clockOf joinedOf openingNumber openingByNumber stored linkNumber linkStored linkByNumber clockNumber clockByNumber parentSteps parentStepsAt stepLinks fourWalks joinedNumber joinedByNumber firstOf has cleared emptied stayed backwardOf turned movedByChunk movedBook inOrderOf linksAt chunkLinks united unitedAll every countFrom ahead counterAt notBefore totalWith slideOf openSlide placeOf movedTo clockInRange lorryCellOver touchOver climb chains
 idle-then = refl
 
 pub not-idle : Joined idle → ⊥
 not-idle j = false≢true (sym idle-then ∙ j .chained start p11Calls then told-then 4 5 refl .1 chained-then)
+
+-- ---- past the end of the counter
+
+abbrev nearEnd : Settings
+nearEnd = record { t0 = 4294967290; b = 10; n = 3; mounting = 1 }
+
+told-near-end : HasHistory start (opening nearEnd ∷ []) (begun nearEnd)
+unfolding historyFrom oneMore firstByNumber firstOf has
+told-near-end = refl
+
+end-refused : gives turnless (after turnless start (opening nearEnd ∷ [])) (clock 4) .number ≡ 4
+unfolding after gives whereDone openingOf clockOf openingNumber openingByNumber clockNumber clockByNumber firstOf has emptied inOrderOf every countFrom ahead counterAt notBefore totalWith clockInRange climb
+end-refused = refl
+
+not-early : TooEarly (begun nearEnd) 4 → ⊥
+unfolding ahead latestOf sumOf
+not-early (inl far) = omega (arith, far)
+not-early (inr over) = omega (arith, over)
+
+pub not-turnless : Time turnless → ⊥
+not-turnless t = not-early (t .clock-four start (opening nearEnd ∷ []) (begun nearEnd) told-near-end 4 .0 end-refused)
+
+-- tick 4 comes again after two clock calls of nearly half a turn
+abbrev turnCalls : List Call
+turnCalls = opening nearEnd ∷ clock 2147483641 ∷ clock 4294967288 ∷ clock 4 ∷ []
+
+abbrev turned-round : History
+turned-round = withTime (withTime (withTime (begun nearEnd) 2147483641) 4294967288) 4
+
+told-round : HasHistory start turnCalls turned-round
+unfolding historyFrom oneMore firstByNumber firstOf has numberIn addedByNumber added ahead counterAt notBefore totalWith movedTo
+told-round = refl
+
+short-round : after shortTotal start turnCalls .book .clock .total ≡ 10
+unfolding after gives whereDone openingOf clockOf openingNumber openingByNumber clockNumber clockByNumber firstOf has cleared emptied stayed backwardOf turned movedByChunk movedBook inOrderOf linksAt chunkLinks united unitedAll every countFrom ahead counterAt notBefore totalWith slideOf openSlide placeOf movedTo clockInRange climb
+short-round = refl
+
+sum-round : totalIn turned-round ≡ 4294967306
+unfolding ahead latestOf sumOf movedTo
+sum-round = refl
+
+pub not-short-total : Time shortTotal → ⊥
+not-short-total t =
+    let e : _≡_ {A = ℕ} 10 4294967306 = sym short-round ∙ t .total start turnCalls turned-round told-round ∙ sum-round in
+    omega arith
 
 -- ---- the lamps
 --
@@ -267,11 +313,11 @@ once = more (begun settings) 0 1 2
 
 -- the window of one link
 linked-once : Linked 1 2 (windowOf once)
-unfolding ofSlides notBefore slideOf movedTo
+unfolding ofSlides ahead counterAt notBefore totalWith slideOf openSlide movedTo
 linked-once = here (along refl refl)
 
 ends-once : (c d : ℕ) → Linked c d (windowOf once) → (c ≡ 1) ⊎ (c ≡ 2)
-unfolding ofSlides notBefore slideOf movedTo
+unfolding ofSlides ahead counterAt notBefore totalWith slideOf openSlide movedTo
 ends-once c d (here (along p q)) = inl (sym p)
 ends-once c d (here (against p q)) = inr (sym q)
 ends-once c d (there l) = absurd (nothing-linked l)

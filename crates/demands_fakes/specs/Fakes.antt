@@ -1,6 +1,6 @@
 -- The builds that must be shut out (RULES 10.5), as implementations. Each differs from ours by its one fault and by nothing else:
 -- where a call of ours is refused, the fake refuses it with the same number, but for the one whose fault is that it takes it.
-use Prim.Native.Nat.{ℕ, zero, suc}
+use Prim.Native.Nat.{ℕ, zero, suc, _%_}
 use mathlib.Core.Bool.{Bool, true, false, cond, not, _&&_}
 use mathlib.Core.List.{List, _++_}
 use lib.Dec.{eqb, ltb}
@@ -8,9 +8,12 @@ use lib.ListN.{length, drop}
 use Rattle.numbers.specs.Kinds.{Bytes, Cell, Log, Number}
 use Rattle.graph.specs.Link.{Link}
 use Rattle.cells.specs.Cell.{sectors}
-use Rattle.slides.specs.Clock.{slideOf}
+use Rattle.slides.specs.Counter.{tickLimit}
+use Rattle.slides.specs.Clock.{timeOf, slideOf}
+use Rattle.slides.specs.declared.Clock.{Clock}
 use Rattle.book_state.specs.declared.Book.{Book}
 use Rattle.book_state.specs.Arrays.{cells}
+use Rattle.book_time.specs.Time.{stayed}
 use Rattle.book_joined.specs.declared.JoinedAnswer.{JoinedAnswer}
 use Rattle.book_joined.specs.Joined.{joinedOf}
 use Rattle.book.specs.Calls.{Outcome, openingOf, linkByNumber, linkOf, clockOf}
@@ -133,6 +136,34 @@ reaching =
       joinedGives = joinedOf;
       chainGives = chainOf;
       lampsGives = lampsOf;
+    }
+
+-- ours with another clock call
+abbrev pub withClock : (Book → Log → ℕ → Outcome) → Implementation
+withClock fault =
+    record {
+      openingGives = openingOf;
+      linkGives = linkOf;
+      clockGives = λ b log tick. let o : Outcome = clockOf b log tick in whereDone (o .number) (fault b log tick) o;
+      joinedGives = joinedOf;
+      chainGives = chainOf;
+      lampsGives = lampsOf;
+    }
+
+-- it compares ticks plainly: one that is below the time is refused, and so is every tick past the end of the counter
+abbrev pub turnless : Implementation
+turnless = withClock λ b log tick. cond (ltb tick (timeOf (b .clock))) (record { book = b; log = log; number = 4 }) (clockOf b log tick)
+
+-- it keeps the total in 32 bits, so that a slide follows from the tick alone
+abbrev pub shortTotal : Implementation
+shortTotal =
+    withClock λ b log tick.
+    let o : Outcome = clockOf b log tick in
+    let c : Clock = o .book .clock in
+    record {
+      book = stayed (o .book) (record { total = c .total % tickLimit; t0 = c .t0; b = c .b; n = c .n; pad = c .pad });
+      log = o .log;
+      number = 0;
     }
 
 -- a fault of the lamps: by the links of the window, the mask and what ours gives

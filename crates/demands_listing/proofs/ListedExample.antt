@@ -15,7 +15,8 @@ use Rattle.settings.specs.Settings.{takenNumber}
 use Rattle.settings.specs.declared.Settings.{Settings}
 use Rattle.cells.specs.Cell.{lorryCellOver}
 use Rattle.cells.specs.Touching.{touchOver}
-use Rattle.slides.specs.Clock.{notBefore, slideOf, movedTo}
+use Rattle.slides.specs.Counter.{ahead, counterAt}
+use Rattle.slides.specs.Clock.{notBefore, totalWith, slideOf, openSlide, movedTo}
 use Rattle.forest.specs.Arrays.{countFrom}
 use Rattle.book_state.specs.Arrays.{cells}
 use Rattle.file.specs.Layout.{fromLittleEndian, settingsOf}
@@ -50,7 +51,7 @@ file-calls : fileCalls exampleFile ≡ opening settings ∷ links
 file-calls = rw is-read (ap (λ calls. opening settings ∷ calls) link-calls)
 
 none-refused : recordRefusal exampleFile .number ≡ 0
-unfolding firstRefusal refusalBy added numberIn firstOf ofSlides howMany notBefore slideOf movedTo lorryCellOver touchOver
+unfolding firstRefusal refusalBy added numberIn firstOf ofSlides howMany ahead counterAt notBefore totalWith slideOf openSlide movedTo lorryCellOver touchOver
 none-refused = rw (is-read, link-calls)
 
 abbrev stored : (slide one other : ℕ) → Stored
@@ -59,13 +60,14 @@ stored slide one other = record { slide = slide; link = record { one = one; othe
 abbrev told : History
 told =
     record {
-      clock = record { t0 = 0; b = 10; time = 45; n = 3; pad = replicate 3 0 };
-      fitting = record { mounting = 1; pad = replicate 3 0 };
+      clock = record { total = 45; t0 = 0; b = 10; n = 3; pad = replicate 7 0 };
+      fitting = record { mounting = 1; pad = replicate 7 0 };
+      ticks = 45 ∷ 30 ∷ 20 ∷ 10 ∷ 0 ∷ [];
       links = stored 4 4 5 ∷ stored 3 5 6 ∷ stored 2 3 4 ∷ stored 1 2 3 ∷ stored 0 1 2 ∷ [];
     }
 
 calls-tell : historyOf true (opening settings ∷ links) ≡ some told
-unfolding historyFrom oneMore firstByNumber addedByNumber added numberIn firstOf ofSlides howMany notBefore slideOf movedTo lorryCellOver touchOver
+unfolding historyFrom oneMore firstByNumber addedByNumber added numberIn firstOf ofSlides howMany ahead counterAt notBefore totalWith slideOf openSlide movedTo lorryCellOver touchOver
 calls-tell = refl
 
 -- ---- its lines
@@ -79,11 +81,11 @@ unnamed c d h (there (there (here (along p q)))) = omega arith
 unnamed c d h (there (there (here (against p q)))) = omega arith
 
 low-lines : linesOf (groupLineIn told) (countFrom 0 7) ≡ line groupWord (3 ∷ 4 ∷ 0 ∷ [])
-unfolding linesOf countFrom groupLineIf filter smallest leastWith leastOver holdWithin chains ofSlides slideOf fields decimal digits
+unfolding linesOf countFrom groupLineIf filter smallest leastWith leastOver holdWithin chains ofSlides openSlide fields decimal digits
 low-lines = refl
 
 all-lines : linesOf (groupLineIn told) (countFrom 0 cells) ≡ line groupWord (3 ∷ 4 ∷ 0 ∷ [])
-unfolding ofSlides slideOf
+unfolding ofSlides openSlide
 all-lines =
     lines-apart (groupLineIn told) 0 7 1017
     ∙ ap (λ later. linesOf (groupLineIn told) (countFrom 0 7) ++ later)
@@ -91,7 +93,7 @@ all-lines =
     ∙ append-nil _ ∙ low-lines
 
 text-is : historyText told ≡ exampleText
-unfolding historyText digits decimal fields ofSlides slideOf
+unfolding historyText digits decimal fields ofSlides openSlide
 text-is = ap (λ lines. windowLine (told .clock) 1 ++ lines ++ line linksWord (linkCountIn told ∷ [])) all-lines
 
 pub example-told : listingText exampleFile ≡ exampleText

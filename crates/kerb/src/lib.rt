@@ -41,22 +41,22 @@ pub extern "C" fn kerb_unpack(records: &[u8], i: u32) -> RecordAnswer
 // The lorry's number of a unit's cell, by the mounting, and the way back (RULES 1.3 to 1.7).
 #[no_mangle]
 pub extern "C" fn kerb_lorry_cell(mounting: u8, cell: u16) -> u16
-    ensures { λ r. ⌜ r ≡ lorryCell (record { mounting = mounting; pad = replicate 3 0 }) cell ⌝ }
+    ensures { λ r. ⌜ r ≡ lorryCell (record { mounting = mounting; pad = replicate 7 0 }) cell ⌝ }
 {
     let fitting = Fitting {
         mounting,
-        pad: [0; 3],
+        pad: [0; 7],
     };
     cells::lorry_cell(fitting, cell)
 }
 
 #[no_mangle]
 pub extern "C" fn kerb_unit_cell(mounting: u8, cell: u16) -> u16
-    ensures { λ r. ⌜ r ≡ unitCell (record { mounting = mounting; pad = replicate 3 0 }) cell ⌝ }
+    ensures { λ r. ⌜ r ≡ unitCell (record { mounting = mounting; pad = replicate 7 0 }) cell ⌝ }
 {
     let fitting = Fitting {
         mounting,
-        pad: [0; 3],
+        pad: [0; 7],
     };
     cells::unit_cell(fitting, cell)
 }
@@ -78,15 +78,15 @@ pub extern "C" fn kerb_sector(cell: u16) -> u16
 
 // The version of the interface, and the bytes of a book: a caller compares both with its header's before it opens a book.
 #[no_mangle]
-pub extern "C" fn kerb_version_2() -> u32
+pub extern "C" fn kerb_version_3() -> u32
     ensures { λ r. ⌜ r ≡ version ⌝ }
 {
-    2
+    3
 }
 
 #[no_mangle]
 pub extern "C" fn kerb_book_size() -> usize
     ensures { λ r. ⌜ r ≡ bookSize ⌝ }
 {
-    9300
+    9312
 }

@@ -26,7 +26,8 @@ pub extern "C" fn kerb_write(s: Settings, records: &[u8], out: &mut [u8]) -> u8
     file_write::write(s, records, out)
 }
 
-// What kerblist prints for a link file, at the front of the output.
+// What kerblist prints for a link file, at the front of the output. The open slide in it is that of the total of all records, and does not
+// follow from the last tick alone (RULES 2.4).
 #[no_mangle]
 pub extern "C" fn kerb_list(file: &[u8], out: &mut [u8]) -> ListAnswer
     ensures { λ r. ⌜ GivesListing (listingOf (now (file .entry)) (now (out .entry))) r (now (out .exit)) ⌝ }

@@ -5,7 +5,8 @@ use book_state::Book;
 use file_play::PlayAnswer;
 ghost use Rattle.file_play.specs.Play.{playOf, GivesPlay};
 
-// The records of a link file, one after the other, up to the first that is refused; those before it stay (RULES 6.6 to 6.9).
+// The records of a link file, one after the other, up to the first that is refused; those before it stay (RULES 6.6 to 6.9). Each is stored in
+// the slide of the total that its tick makes, which does not follow from the tick alone (RULES 2.4).
 #[no_mangle]
 pub extern "C" fn kerb_play(book: &mut Book, log: &mut [u16], file: &[u8]) -> PlayAnswer
     ensures { λ r. ⌜ GivesPlay (playOf (now (file .entry)) (now (book .entry)) (now (log .entry))) (now (book .exit)) r (now (log .exit)) ⌝ }

@@ -5,7 +5,7 @@ use slides::SlideTicks;
 ghost use mathlib.Core.Path.{_≡_};
 ghost use Rattle.slides.specs.Clock.{openSlide, ticksOf};
 
-// The slide of the book's time; 0 for a book that was never opened (RULES 2.15).
+// The open slide, that of the total; 0 for a book that was never opened (RULES 2.15).
 #[no_mangle]
 pub extern "C" fn kerb_open_slide(book: &Book) -> u64
     ensures { λ r. ⌜ r ≡ openSlide (now (book .entry) .clock) ⌝ }
@@ -13,7 +13,7 @@ pub extern "C" fn kerb_open_slide(book: &Book) -> u64
     slides::open_slide(book.clock)
 }
 
-// The ticks of a slide, from the first to the last, and whether any tick reaches it.
+// The totals and the ticks of a slide, from the first to the last, and whether any total reaches it.
 #[no_mangle]
 pub extern "C" fn kerb_slide_ticks(book: &Book, slide: u64) -> SlideTicks
     ensures { λ r. ⌜ r ≡ ticksOf (now (book .entry) .clock) slide ⌝ }

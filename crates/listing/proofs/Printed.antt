@@ -3,7 +3,7 @@ use Prim.Native.Nat.{ℕ, _^_, _≤_, _<_}
 use mathlib.Core.List.{[], _∷_}
 use native.Mathlib.Omega.{arith}
 use lib.ListN.{length}
-use Rattle.slides.specs.Clock.{tickLimit}
+use Rattle.slides.specs.Counter.{tickLimit}
 use Rattle.text.specs.Text.{line}
 use Rattle.text.proofs.Decimal.{fields-length, field-short, line-length}
 use Rattle.listing.specs.Lines.{windowWord, groupWord, linksWord, refusedWord}

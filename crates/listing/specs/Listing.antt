@@ -21,7 +21,7 @@ use Rattle.listing.specs.Lines.{windowWord, linksWord, refusedFile, refu
 use Rattle.text.specs.Text.{line}
 use Rattle.file_play.specs.Play.{Play, playFrom}
 
--- n, B, mounting, open slide
+-- n, B, mounting, open slide: that of the total, and no matter of the last tick alone (RULES 2.4)
 abbrev pub windowLine : (clock : Clock) (mounting : ℕ) → Bytes
 windowLine clock mounting = line windowWord (clock .n ∷ clock .b ∷ mounting ∷ openSlide clock ∷ [])
 

@@ -1,9 +1,10 @@
 -- The laws of the first check that fails. Where the number is 0 every check is passed, and where it is not the first check
--- that fails says it; so the proof of a call goes down its list of checks, one law a check. A number that no check has is not given. And a
--- list's places, counted.
+-- that fails says it; so the proof of a call goes down its list of checks, one law a check. A number that no check has is not given, and one
+-- that a single check has is given exactly when those before it are passed and it fails. And a list's places, counted.
 use Prim.Native.Nat.{ℕ, zero, suc, _≤_, zero-le}
 use mathlib.Core.Path.{_≡_, refl, sym, _∙_}
-use mathlib.Core.Bool.{Bool, true, false, false≢true}
+use mathlib.Core.Bool.{Bool, true, false, true≢false, false≢true}
+use mathlib.Core.Logic.{_↔_}
 use mathlib.Core.List.{List, [], _∷_, _++_}
 use native.Mathlib.Omega.{arith}
 use borrow.Author.Tests.{eqb-false}
@@ -86,6 +87,25 @@ module _ (k : ℕ) (some : eqb 0 k ≡ false) where
   pub never-last : firstOf [] ≡ k → ⊥
   unfolding firstOf
   never-last = eqb-false 0 k some
+
+  -- ---- a number that a single check has
+
+  pub checked : (t : Bool) → (unless t k ≡ k) ↔ (t ≡ false)
+  checked true = (λ e. absurd (eqb-false 0 k some e), λ e. absurd (true≢false e))
+  checked false = (λ e. refl, λ e. refl)
+
+  -- that check, and those after it
+  pub asked-here : (t : Bool) (js : List ℕ) → (firstOf js ≡ k → ⊥) → (firstOf (unless t k ∷ js) ≡ k) ↔ (t ≡ false)
+  unfolding firstOf
+  asked-here true js others = (λ e. absurd (others e), λ e. absurd (true≢false e))
+  asked-here false js others = (λ e. refl, λ e. first-found k js (λ z. eqb-false 0 k some (sym z)))
+
+  -- a check before it
+  pub asked-later : (t : Bool) (j : ℕ) (js : List ℕ) {Q : Type 0} → eqb (suc j) k ≡ false → (firstOf js ≡ k) ↔ Q
+      → (firstOf (unless t (suc j) ∷ js) ≡ k) ↔ ((t ≡ true) × Q)
+  unfolding firstOf
+  asked-later true j js another rest = (λ e. (refl, rest .0 e), λ w. rest .1 (w .1))
+  asked-later false j js another rest = (λ e. absurd (eqb-false (suc j) k another e), λ w. absurd (false≢true (w .0)))
 
 -- ---- a list's places
 

@@ -11,6 +11,10 @@ Cell = ℕ
 abbrev pub Tick : Type 0
 Tick = ℕ
 
+-- how many ticks have passed since T0, each turn of the unit's counter counted (RULES 2.3)
+abbrev pub Total : Type 0
+Total = ℕ
+
 -- a slide by its number, counted from T0 (RULES 2.4)
 abbrev pub Slide : Type 0
 Slide = ℕ

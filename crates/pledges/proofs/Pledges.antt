@@ -15,6 +15,7 @@ use Rattle.pledges.specs.Calls.{
   chainCall,
   groupsCall,
   lampsCall,
+  timeCall,
   openSlideCall,
   slideTicksCall,
   readCall,
@@ -61,6 +62,7 @@ pledges =
       kerb-groups = one-claim groupsCall _ (λ w κs a. refl) (λ κs a. record { answered = refl; firsts = refl; sizes = refl; holds = refl })
           (λ κs a r p i. p .answered i ▸ tt ▸ tt ▸ p .firsts i ▸ p .sizes i ▸ p .holds i ▸ tt);
       kerb-lamps = one-claim lampsCall _ (λ w κs a. refl) (λ κs a. refl) (λ κs a r p i. p i ▸ tt ▸ tt ▸ tt ▸ tt);
+      kerb-time = one-claim timeCall _ (λ w κs a. refl) (λ κs a. refl) (λ κs a r p i. p i ▸ tt ▸ tt);
       kerb-open-slide = one-claim openSlideCall _ (λ w κs a. refl) (λ κs a. refl) (λ κs a r p i. p i ▸ tt ▸ tt);
       kerb-slide-ticks = one-claim slideTicksCall _ (λ w κs a. refl) (λ κs a. refl) (λ κs a r p i. p i ▸ tt ▸ tt ▸ tt);
       kerb-read = one-claim readCall _ (λ w κs a. refl) (λ κs a. refl) (λ κs a r p i. p i ▸ tt ▸ tt);
@@ -77,6 +79,6 @@ pledges =
       kerb-unit-cell = one-claim unitCellCall _ (λ w κs a. refl) (λ κs a. refl) (λ κs a r p i. p i ▸ tt ▸ tt ▸ tt);
       kerb-ring = one-claim ringCall _ (λ w κs a. refl) (λ κs a. refl) (λ κs a r p i. p i ▸ tt ▸ tt);
       kerb-sector = one-claim sectorCall _ (λ w κs a. refl) (λ κs a. refl) (λ κs a r p i. p i ▸ tt ▸ tt);
-      kerb-version-2 = one-claim versionCall _ (λ w κs a. refl) (λ κs a. refl) (λ κs a r p i. p i ▸ tt);
+      kerb-version-3 = one-claim versionCall _ (λ w κs a. refl) (λ κs a. refl) (λ κs a r p i. p i ▸ tt);
       kerb-book-size = one-claim bookSizeCall _ (λ w κs a. refl) (λ κs a. refl) (λ κs a r p i. p i ▸ tt);
     }

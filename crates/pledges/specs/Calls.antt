@@ -9,7 +9,7 @@ use Rattle.kerb.proofs.kerb_ring
 use Rattle.kerb.proofs.kerb_sector
 use Rattle.kerb.proofs.kerb_unit_cell
 use Rattle.kerb.proofs.kerb_unpack
-use Rattle.kerb.proofs.kerb_version_2
+use Rattle.kerb.proofs.kerb_version_3
 use Rattle.kerb_chain.proofs.kerb_chain
 use Rattle.kerb_file.proofs.kerb_list
 use Rattle.kerb_file.proofs.kerb_read
@@ -25,6 +25,7 @@ use Rattle.kerb_text.proofs.kerb_text_in
 use Rattle.kerb_text.proofs.kerb_text_out
 use Rattle.kerb_time.proofs.kerb_clock
 use Rattle.kerb_time.proofs.kerb_link
+use Rattle.kerb_time.proofs.kerb_time
 use Rattle.pledges.specs.Exported.{Exported}
 
 abbrev pub neverOpenedCall : Exported
@@ -53,6 +54,9 @@ groupsCall = record { ended = kerb_groups.ended; clauses = λ M. kerb_groups.cla
 
 abbrev pub lampsCall : Exported
 lampsCall = record { ended = kerb_lamps.ended; clauses = λ M. kerb_lamps.clauses; routine = kerb_lamps.Symbol.routine }
+
+abbrev pub timeCall : Exported
+timeCall = record { ended = kerb_time.ended; clauses = λ M. kerb_time.clauses; routine = kerb_time.Symbol.routine }
 
 abbrev pub openSlideCall : Exported
 openSlideCall = record { ended = kerb_open_slide.ended; clauses = λ M. kerb_open_slide.clauses; routine = kerb_open_slide.Symbol.routine }
@@ -94,7 +98,7 @@ abbrev pub sectorCall : Exported
 sectorCall = record { ended = kerb_sector.ended; clauses = λ M. kerb_sector.clauses; routine = kerb_sector.Symbol.routine }
 
 abbrev pub versionCall : Exported
-versionCall = record { ended = kerb_version_2.ended; clauses = λ M. kerb_version_2.clauses; routine = kerb_version_2.Symbol.routine }
+versionCall = record { ended = kerb_version_3.ended; clauses = λ M. kerb_version_3.clauses; routine = kerb_version_3.Symbol.routine }
 
 abbrev pub bookSizeCall : Exported
 bookSizeCall = record { ended = kerb_book_size.ended; clauses = λ M. kerb_book_size.clauses; routine = kerb_book_size.Symbol.routine }

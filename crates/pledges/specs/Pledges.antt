@@ -3,7 +3,7 @@
 use lib.ListN.{length, replicate}
 use denote.Ref.{now}
 use Rattle.cells.specs.Cell.{sectors, ringOf, sectorOf, lorryCell, unitCell}
-use Rattle.slides.specs.Clock.{openSlide, ticksOf}
+use Rattle.slides.specs.Clock.{timeOf, openSlide, ticksOf}
 use Rattle.book_state.specs.Order.{neverOpened}
 use Rattle.book_joined.specs.Joined.{joinedOf}
 use Rattle.book.specs.Calls.{Outcome, openingOf, linkOf, clockOf}
@@ -28,6 +28,7 @@ use Rattle.pledges.specs.Calls.{
   chainCall,
   groupsCall,
   lampsCall,
+  timeCall,
   openSlideCall,
   slideTicksCall,
   readCall,
@@ -94,6 +95,7 @@ pub record EachCall (Holds : (f : Exported) → Definition f → Type 2) : Type 
       o .answer ▸ kept ▸ kept ▸ o .first ▸ o .size ▸ o .hold ▸ tt
   pub kerb-lamps : Holds lampsCall λ κs a. with3 a λ book log mask.
       lampsOf (now book) (now log) (now mask) ▸ kept ▸ kept ▸ kept ▸ tt
+  pub kerb-time : Holds timeCall λ κs a. with1 a λ book. timeOf (now book .clock) ▸ kept ▸ tt
   pub kerb-open-slide : Holds openSlideCall λ κs a. with1 a λ book. openSlide (now book .clock) ▸ kept ▸ tt
   pub kerb-slide-ticks : Holds slideTicksCall λ κs a. with2 a λ book slide. ticksOf (now book .clock) slide ▸ kept ▸ kept ▸ tt
   pub kerb-read : Holds readCall λ κs a. with1 a λ file. readOf (now file) ▸ kept ▸ tt
@@ -112,12 +114,12 @@ pub record EachCall (Holds : (f : Exported) → Definition f → Type 2) : Type 
       packNumber (length (now out)) ▸ kept ▸ kept ▸ kept ▸ packedOf tick one other (now out) ▸ tt
   pub kerb-unpack : Holds unpackCall λ κs a. with2 a λ records i. recordOf (now records) i ▸ kept ▸ kept ▸ tt
   pub kerb-lorry-cell : Holds lorryCellCall λ κs a. with2 a λ mounting cell.
-      lorryCell (record { mounting = mounting; pad = replicate 3 0 }) cell ▸ kept ▸ kept ▸ tt
+      lorryCell (record { mounting = mounting; pad = replicate 7 0 }) cell ▸ kept ▸ kept ▸ tt
   pub kerb-unit-cell : Holds unitCellCall λ κs a. with2 a λ mounting cell.
-      unitCell (record { mounting = mounting; pad = replicate 3 0 }) cell ▸ kept ▸ kept ▸ tt
+      unitCell (record { mounting = mounting; pad = replicate 7 0 }) cell ▸ kept ▸ kept ▸ tt
   pub kerb-ring : Holds ringCall λ κs a. with1 a λ cell. ringOf sectors cell ▸ kept ▸ tt
   pub kerb-sector : Holds sectorCall λ κs a. with1 a λ cell. sectorOf sectors cell ▸ kept ▸ tt
-  pub kerb-version-2 : Holds versionCall λ κs a. version ▸ tt
+  pub kerb-version-3 : Holds versionCall λ κs a. version ▸ tt
   pub kerb-book-size : Holds bookSizeCall λ κs a. bookSize ▸ tt
 
 abbrev pub Pledges : Type 2

@@ -10,7 +10,7 @@ use Rattle.kerb.proofs.kerb_ring
 use Rattle.kerb.proofs.kerb_sector
 use Rattle.kerb.proofs.kerb_unit_cell
 use Rattle.kerb.proofs.kerb_unpack
-use Rattle.kerb.proofs.kerb_version_2
+use Rattle.kerb.proofs.kerb_version_3
 use Rattle.kerb_chain.proofs.kerb_chain
 use Rattle.kerb_file.proofs.kerb_list
 use Rattle.kerb_file.proofs.kerb_read
@@ -26,6 +26,7 @@ use Rattle.kerb_text.proofs.kerb_text_in
 use Rattle.kerb_text.proofs.kerb_text_out
 use Rattle.kerb_time.proofs.kerb_clock
 use Rattle.kerb_time.proofs.kerb_link
+use Rattle.kerb_time.proofs.kerb_time
 use Rattle.pledges.specs.Exported.{Exported, Lifetimes, Given, Claim, Definition, Met, Pledged, CodeMeets}
 use Rattle.pledges.proofs.Exported.{code-meets}
 use Rattle.pledges.proofs.Pledges.{pledges}
@@ -46,6 +47,7 @@ code-ends =
       kerb-chain = ends (λ M. kerb_chain.Met.met) (pledges .kerb-chain);
       kerb-groups = ends (λ M. kerb_groups.Met.met) (pledges .kerb-groups);
       kerb-lamps = ends (λ M. kerb_lamps.Met.met) (pledges .kerb-lamps);
+      kerb-time = ends (λ M. kerb_time.Met.met) (pledges .kerb-time);
       kerb-open-slide = ends (λ M. kerb_open_slide.Met.met) (pledges .kerb-open-slide);
       kerb-slide-ticks = ends (λ M. kerb_slide_ticks.Met.met) (pledges .kerb-slide-ticks);
       kerb-read = ends (λ M. kerb_read.Met.met) (pledges .kerb-read);
@@ -59,7 +61,7 @@ code-ends =
       kerb-unit-cell = ends (λ M. kerb_unit_cell.Met.met) (pledges .kerb-unit-cell);
       kerb-ring = ends (λ M. kerb_ring.Met.met) (pledges .kerb-ring);
       kerb-sector = ends (λ M. kerb_sector.Met.met) (pledges .kerb-sector);
-      kerb-version-2 = ends (λ M. kerb_version_2.Met.met) (pledges .kerb-version-2);
+      kerb-version-3 = ends (λ M. kerb_version_3.Met.met) (pledges .kerb-version-3);
       kerb-book-size = ends (λ M. kerb_book_size.Met.met) (pledges .kerb-book-size);
     }
 

@@ -8,6 +8,7 @@ use Rattle.demands.proofs.LampsAre.{lamps}
 use Rattle.demands.proofs.NeverOpened.{never-opened}
 use Rattle.demands.proofs.Refused.{refused}
 use Rattle.demands.proofs.Table.{table}
+use Rattle.demands.proofs.TimeIs.{time}
 use Rattle.demands.proofs.Touching.{touching}
 use Rattle.demands.proofs.Unassigned.{eight-unassigned}
 use Rattle.demands_cases.specs.Cases.{cases}
@@ -16,7 +17,7 @@ use Rattle.pledges.proofs.Single.{single}
 use Rattle.text_list.proofs.Texts.{texts}
 use Rattle.promises.specs.Promise.{Kept}
 use Rattle.promises.proofs.Ends.{code-ends}
-use Rattle.promises.proofs.Routines.{code-refuses, code-unassigned, code-table, code-joined, code-files, code-chain, code-lamps, code-listing}
+use Rattle.promises.proofs.Routines.{code-refuses, code-unassigned, code-table, code-time, code-joined, code-files, code-chain, code-lamps, code-listing}
 
 pub kept : Kept
 kept =
@@ -41,6 +42,8 @@ kept =
       code-table = code-table;
       unassigned = eight-unassigned;
       code-unassigned = code-unassigned;
+      time = time;
+      code-time = code-time;
       touching = touching;
       lamps = lamps;
       code-lamps = code-lamps;

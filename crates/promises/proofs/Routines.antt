@@ -1,15 +1,20 @@
 -- The code meets the demands. It gives what the definitions say (Ends), so each demand is one on a definition's result, and is proved of
 -- the definitions in the crates demands and demands_listing. A book and a log that calls have left agree with the history (Keeps, of
 -- demands), and what is demanded of them is what is proved of such a state.
-use Prim.Native.Nat.{ℕ}
+use Prim.Native.Nat.{ℕ, _/_, _%_}
 use mathlib.Core.Path.{_≡_, refl, ap, _∙_, subst, subst⁻¹}
 use mathlib.Core.Bool.{Bool, true, false}
 use mathlib.Core.List.{List}
+use mathlib.Core.Logic.{_↔_}
 use native.Mathlib.Omega.{arith}
 use lib.ListN.{length}
 use denote.Ref.{now}
 use Rattle.numbers.specs.Front.{atFront}
+use Rattle.cells.specs.Touching.{touch}
+use Rattle.slides.specs.Counter.{tickLimit}
+use Rattle.slides.specs.Clock.{timeOf, openSlide}
 use Rattle.book_state.specs.declared.Book.{Book}
+use Rattle.book_state.specs.Numbers.{areCells}
 use Rattle.file.specs.Format.{readOf}
 use Rattle.file_play.specs.Play.{Play}
 use Rattle.file_play.specs.declared.PlayAnswer.{PlayAnswer}
@@ -17,13 +22,14 @@ use Rattle.file_write.proofs.Files.{written-then-read, read-then-written}
 use Rattle.listing.specs.Listing.{listedIf, listingOf}
 use Rattle.text_list.proofs.Calls.{in-number, out-number}
 use Rattle.text_list.proofs.Texts.{texts}
-use Rattle.demands.specs.History.{opening, link, clock, History}
-use Rattle.demands.specs.Implementation.{gives}
+use Rattle.demands.specs.History.{opening, link, clock, History, openSlideIn, latestIn, totalIn}
+use Rattle.demands.specs.Implementation.{ours, State, gives}
 use Rattle.demands.specs.Agrees.{Agrees}
-use Rattle.demands.specs.Demands.{Stopped}
+use Rattle.demands.specs.Demands.{AfterCalls, Stopped, TooEarly}
 use Rattle.demands.proofs.Refused.{refused}
 use Rattle.demands.proofs.FilesRefused.{read-gives, groups-gives, list-gives, unpack-gives, play-read, files-refused}
 use Rattle.demands.proofs.NumbersAgree.{opening-gives, link-gives, clock-gives, joined-gives, chain-gives, number-agrees, asked-agrees}
+use Rattle.demands.proofs.TimeIs.{time}
 use Rattle.demands.proofs.Touching.{apart-agrees}
 use Rattle.demands.proofs.Unassigned.{eight-unassigned}
 use Rattle.demands.proofs.Keeps.{keeps}
@@ -34,7 +40,7 @@ use Rattle.demands.proofs.LampsAre.{lamps-gives, lamps-number, lamps-fifteen, l
 use Rattle.demands_listing.proofs.ListedCalls.{plays-told}
 use Rattle.demands_listing.proofs.ListedGroups.{groups-told}
 use Rattle.demands_listing.proofs.ListedPrints.{prints-told}
-use Rattle.promises.specs.Routines.{CodeRefuses, CodeUnassigned, LeftByCalls, CodeTable, CodeJoined, CodeFiles, CodeChain, CodeLamps, CodeListed}
+use Rattle.promises.specs.Routines.{CodeRefuses, CodeUnassigned, LeftByCalls, CodeTable, CodeTime, CodeJoined, CodeFiles, CodeChain, CodeLamps, CodeListed}
 use Rattle.promises.proofs.Ends.{code-ends, demanded}
 
 abbrev answerOf : Play → PlayAnswer
@@ -42,8 +48,12 @@ answerOf p = record { taken = p .taken; number = p .number }
 
 -- ---- a book and a log that calls have left
 
+-- what holds after calls holds of them
+left : (holds : State → History → Type 0) → AfterCalls ours holds → {b : Book} {log : List ℕ} {h : History} → LeftByCalls b log h → holds (record { book = b; log = log }) h
+left holds all {h = h} l = subst (λ s. holds s h) (l .left) (all (l .start) (l .calls) h (l .told))
+
 left-agrees : {b : Book} {log : List ℕ} {h : History} → LeftByCalls b log h → Agrees h (record { book = b; log = log })
-left-agrees {h = h} l = subst (Agrees h) (l .left) (keeps (l .start) (l .calls) h (l .told))
+left-agrees = left (λ s h. Agrees h s) keeps
 
 pub code-refuses : CodeRefuses
 unfolding gives listingOf
@@ -115,6 +125,20 @@ code-table =
       kerb-link = demanded (code-ends .kerb-link) λ κs a h l. (number-agrees (left-agrees l) (link _ _ _), apart-agrees (left-agrees l) _ _ _);
       kerb-clock = demanded (code-ends .kerb-clock) λ κs a h l. number-agrees (left-agrees l) (clock _);
       kerb-joined = demanded (code-ends .kerb-joined) λ κs a log h l. asked-agrees (left-agrees l) _ _;
+    }
+
+pub code-time : CodeTime
+unfolding gives
+code-time =
+    record {
+      kerb-link = demanded (code-ends .kerb-link) λ κs a h l.
+          left (λ s h. (tick one other : ℕ) → (gives ours s (link tick one other) .number ≡ 4) ↔ ((areCells one other ≡ true) × (touch one other ≡ true) × TooEarly h tick))
+          (time .link-four) l _ _ _;
+      kerb-clock = demanded (code-ends .kerb-clock) λ κs a h l.
+          left (λ s h. (tick : ℕ) → (gives ours s (clock tick) .number ≡ 4) ↔ TooEarly h tick) (time .clock-four) l _;
+      kerb-time = demanded (code-ends .kerb-time) λ κs a log h l. left (λ s h. timeOf (s .book .clock) ≡ latestIn h % tickLimit) (time .time) l;
+      kerb-open-slide = demanded (code-ends .kerb-open-slide) λ κs a log h l.
+          ap openSlide (left-agrees l .clock) ∙ left (λ s h. openSlideIn h ≡ totalIn h / h .clock .b) (time .slide) l;
     }
 
 pub code-joined : CodeJoined

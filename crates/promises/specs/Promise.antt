@@ -10,11 +10,11 @@
 -- the code itself (Routines).
 use Rattle.demands.specs.Implementation.{ours}
 use Rattle.demands.specs.Agrees.{Agrees}
-use Rattle.demands.specs.Demands.{AfterCalls, Table, Refused, FilesRefused, NeverOpened, Joined, Files, Chain, Unassigned, Touching, Lamps}
+use Rattle.demands.specs.Demands.{AfterCalls, Table, Refused, FilesRefused, NeverOpened, Joined, Files, Chain, Unassigned, Time, Touching, Lamps}
 use Rattle.demands_cases.specs.Cases.{Cases}
 use Rattle.demands_listing.specs.Listed.{Listed}
 use Rattle.pledges.specs.Single.{Single}
-use Rattle.promises.specs.Routines.{CodeEnds, CodeRefuses, CodeUnassigned, CodeTable, CodeJoined, CodeFiles, CodeChain, CodeLamps, CodeListed}
+use Rattle.promises.specs.Routines.{CodeEnds, CodeRefuses, CodeUnassigned, CodeTable, CodeTime, CodeJoined, CodeFiles, CodeChain, CodeLamps, CodeListed}
 
 -- Every call ends and stays inside its memory for all inputs: bad settings, cells, ticks, files, short buffers, altered books. A refused
 -- call gives the number in the table and alters nothing lent to it.
@@ -53,6 +53,9 @@ pub record Kept : Type 2 where
   -- no call gives 8, whatever it is lent (RULES 7.1)
   pub unassigned : Unassigned ours
   pub code-unassigned : CodeUnassigned
+  -- the time: number 4, the total and the slides by the ticks that were accepted; the counter goes round (RULES 2.3, 2.4)
+  pub time : Time ours
+  pub code-time : CodeTime
   -- only cells that touch are linked (RULES 2.11)
   pub touching : Touching
   -- the two lamps, by the history and by joined (RULES 11)
@@ -61,7 +64,7 @@ pub record Kept : Type 2 where
   -- the listing, the groups call and playing, by the history (RULES 8, 6.6)
   pub listing : Listed
   pub code-listing : CodeListed
-  -- the worked cases P1 to P12 and O1 to O5 (RULES 9)
+  -- the worked cases P1 to P12 and O1 to O6 (RULES 9)
   pub cases : Cases
   -- two results that a public contract allows are equal: of exported calls in `ends`, of the functions below them here (RULES 10.2)
   pub single : Single

@@ -1,7 +1,7 @@
 -- The demands of the code itself: what each exported routine gives when it is called with anything at all, said of the arguments, the
 -- result and the lent memory afterwards (a name with a stroke). The code meets its contract, and the contract says what the definition
 -- says (the crate pledges); so the code meets what is proved of the definitions.
-use Prim.Native.Nat.{ℕ, _+_, _*_, _≤_, _<_}
+use Prim.Native.Nat.{ℕ, _+_, _*_, _/_, _%_, _≤_, _<_}
 use mathlib.Core.Path.{_≡_}
 use mathlib.Core.Bool.{true, false}
 use mathlib.Core.List.{List}
@@ -16,6 +16,7 @@ use Rattle.graph.specs.Link.{Chained}
 use Rattle.settings.specs.declared.Settings.{Settings}
 use Rattle.cells.specs.Cell.{sectors}
 use Rattle.cells.specs.Touching.{touch}
+use Rattle.slides.specs.Counter.{tickLimit}
 use Rattle.book_state.specs.declared.Book.{Book}
 use Rattle.book_state.specs.Arrays.{cells}
 use Rattle.book_state.specs.Numbers.{areCells}
@@ -39,12 +40,12 @@ use Rattle.text_list.specs.Reading.{linesOf}
 use Rattle.text_list.specs.Call.{TextIn, textInNumber, textInOf, TextOut, textOutNumber, textOutOf}
 use Rattle.text_list.specs.Promises.{IsTextOf, Taken, BreaksAt}
 use Rattle.pledges.specs.Exported.{Exported, Definition, Met, Pledged, CodeMeets, Gives}
-use Rattle.pledges.specs.Calls.{openingCall, linkCall, clockCall, playCall, joinedCall, chainCall, groupsCall, lampsCall, readCall, writeCall, listCall, textInCall, textOutCall, packCall, unpackCall}
+use Rattle.pledges.specs.Calls.{openingCall, linkCall, clockCall, playCall, joinedCall, chainCall, groupsCall, lampsCall, timeCall, openSlideCall, readCall, writeCall, listCall, textInCall, textOutCall, packCall, unpackCall}
 use Rattle.pledges.specs.Pledges.{with1, with2, with3, with4, with5, EachCall}
-use Rattle.demands.specs.History.{Call, opening, link, clock, History, numberIn, windowOf}
+use Rattle.demands.specs.History.{Call, opening, link, clock, History, numberIn, latestIn, totalIn, windowOf}
 use Rattle.demands.specs.Implementation.{ours, State, after}
 use Rattle.demands_listing.specs.Listed.{Plays, groupsOutcomeIn, Prints}
-use Rattle.demands.specs.Demands.{roomIn, HasHistory, Stopped, stepsIn, Fits, Answers, unassigned, LampIs}
+use Rattle.demands.specs.Demands.{roomIn, HasHistory, Stopped, stepsIn, Fits, Answers, unassigned, TooEarly, LampIs}
 
 -- 1. an exported call ends: called with anything, its code ends, touches no memory but its own and what is lent to it, and gives what
 -- the definition says
@@ -146,6 +147,17 @@ pub record CodeTable : Type 2 where
       (h : History) → LeftByCalls (now book) (now log) h → r ≡ numberIn (roomIn (record { book = now book; log = now log })) h (clock tick)
   pub kerb-joined : CodeMeets joinedCall λ κs a r e. with3 a λ book one other.
       (log : Log) (h : History) → LeftByCalls (now book) log h → r .number ≡ unless (areCells one other) 3
+
+-- after any calls from an opening, number 4, the time and the open slide are those of the accepted ticks (RULES 2.3, 2.4)
+pub record CodeTime : Type 2 where
+  pub kerb-link : CodeMeets linkCall λ κs a r e. with5 a λ book log tick one other.
+      (h : History) → LeftByCalls (now book) (now log) h → (r ≡ 4) ↔ ((areCells one other ≡ true) × (touch one other ≡ true) × TooEarly h tick)
+  pub kerb-clock : CodeMeets clockCall λ κs a r e. with3 a λ book log tick.
+      (h : History) → LeftByCalls (now book) (now log) h → (r ≡ 4) ↔ TooEarly h tick
+  pub kerb-time : CodeMeets timeCall λ κs a r e. with1 a λ book.
+      (log : Log) (h : History) → LeftByCalls (now book) log h → r ≡ latestIn h % tickLimit
+  pub kerb-open-slide : CodeMeets openSlideCall λ κs a r e. with1 a λ book.
+      (log : Log) (h : History) → LeftByCalls (now book) log h → r ≡ totalIn h / h .clock .b
 
 -- 2. joined, and the steps (RULES 4.4, 3.13)
 abbrev pub CodeJoined : Type 2

@@ -27,4 +27,4 @@ heldInRange = inRange
 
 -- how the unit is fitted (RULES 1.3)
 abbrev pub fittingOf : Settings → Fitting
-fittingOf s = record { mounting = s .mounting; pad = replicate 3 0 }
+fittingOf s = record { mounting = s .mounting; pad = replicate 7 0 }

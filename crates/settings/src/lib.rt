@@ -44,6 +44,6 @@ pub fn fitting(s: Settings) -> Fitting
 {
     Fitting {
         mounting: s.mounting,
-        pad: [0; 3],
+        pad: [0; 7],
     }
 }

@@ -3,27 +3,43 @@
 -- A slide is chunk × n + place, with the place below n. So two slides that are d chunks apart are d × n apart, but for
 -- the difference of their places (`apart`). Hence a slide less than n later lies in the same chunk or in the next one,
 -- and in the next one it is less than n later exactly where its place is the lower: the window of the two forests.
-use Prim.Native.Nat.{ℕ, zero, suc, _+_, _-_, _*_, _/_, _%_, _≤_, _<_}
-use mathlib.Core.Bool.{Bool, true, false, cond, _&&_, _||_, false≢true}
+use Prim.Native.Nat.{ℕ, zero, suc, _+_, _-_, _*_, _/_, _%_, _≤_, _<_, min}
+use mathlib.Core.Bool.{Bool, true, false, cond, _&&_, _||_, false≢true, and-eq-true-iff}
 use mathlib.Core.Logic.{_⊎_, inl, inr, _↔_, ⊎-elim}
 use mathlib.Core.List.{List}
 use mathlib.Core.Path.{_≡_, refl, sym, ap, _∙_}
 use lib.Dec.{eqb, leb, ltb}
-use borrow.Author.Tests.{le-leb, leb-true, le-ltb, ne-eqb}
-use native.Mathlib.Nat.{le-refl, le-trans, zero-lt-suc, lt-of-le-of-lt, sub-self, sub-le, zero-div, div-zero, div-le-self, div-mul-le-self, le-div-iff-mul-le, div-add-mod', mod-lt, eq-or-lt-of-le, mul-le-mul-right, add-mul}
+use borrow.Author.Tests.{lt-ltb, le-leb, ltb-true, leb-true, ne-eqb}
+use native.Mathlib.Nat.{le-refl, le-trans, zero-lt-suc, add-zero, zero-div, div-zero, div-le-self, div-mul-le-self, le-div-iff-mul-le, div-lt-iff-lt-mul, div-eq-of-lt-le, div-add-mod', mod-lt, eq-or-lt-of-le, mul-le-mul-right, add-mul}
 use native.Mathlib.Omega.{arith}
 use native.Mathlib.Decide.{decLt}
 use Rattle.settings.specs.Settings.{takenNumber}
 use Rattle.settings.specs.declared.Settings.{Settings}
 use Rattle.slides.specs.declared.Clock.{Clock}
-use Rattle.slides.specs.Clock.{tickLimit, slideLimit, notBefore, slideOf, firstTick, hasTicks, ticksIf, ticksOf, openSlide, chunkOf, placeOf, started, movedTo, clockInRange}
+use Rattle.slides.specs.Counter.{tickLimit, halfTurn}
+use Rattle.slides.specs.Clock.{totalMost, timeOf, differenceOf, notBefore, totalWith, slideOf, openSlide, firstTotal, hasTicks, ticksIf, ticksOf, chunkOf, placeOf, started, movedTo, clockInRange}
+use Rattle.slides.proofs.Counter.{ahead-same, counter-ahead}
 
 -- ---- the clock and its ticks
 
--- the same tick again is allowed
-pub not-before-time : (clock : Clock) → notBefore clock (clock .time) ≡ true
+-- the difference of a tick that is not before the time is below half a turn, and the total has room for it
+pub record Taken (clock : Clock) (tick : ℕ) : Type 0 where
+  pub near : differenceOf clock tick < halfTurn
+  pub room : clock .total + differenceOf clock tick ≤ totalMost
+
+pub not-before : (clock : Clock) (tick : ℕ) → (notBefore clock tick ≡ true) ↔ Taken clock tick
 unfolding notBefore
-not-before-time clock = le-leb _ _ (le-refl (clock .time))
+not-before clock tick = (
+  λ e. let w : (ltb (differenceOf clock tick) halfTurn ≡ true) × (leb (clock .total + differenceOf clock tick) totalMost ≡ true) = and-eq-true-iff _ _ .0 e in
+      record { near = ltb-true _ _ (w .0); room = leb-true _ _ (w .1) },
+  λ t. rw (lt-ltb _ _ (t .near), le-leb _ _ (t .room)),
+)
+
+-- the same tick again is allowed, where the total stands at its largest too
+pub not-before-time : (clock : Clock) → clock .total ≤ totalMost → notBefore clock (timeOf clock) ≡ true
+not-before-time clock most =
+    not-before clock (timeOf clock) .1
+    (record { near = rw (ahead-same (timeOf clock)) (omega arith); room = rw (ahead-same (timeOf clock)) (omega (arith, most)) })
 
 module _ (clock : Clock) (tick : ℕ) where
   pub moved-t0 : movedTo clock tick .t0 ≡ clock .t0
@@ -46,14 +62,19 @@ module _ (clock : Clock) (tick : ℕ) where
   unfolding movedTo placeOf
   moved-place slide = refl
 
-  pub moved-time : notBefore clock tick ≡ true → movedTo clock tick .time ≡ tick
-  unfolding movedTo
-  moved-time e = rw e
+  -- a tick that is taken adds its difference,
+  pub moved-total : notBefore clock tick ≡ true → movedTo clock tick .total ≡ clock .total + differenceOf clock tick
+  unfolding movedTo totalWith
+  moved-total e = rw e
+
+  -- and the counter then stands there
+  pub moved-time : notBefore clock tick ≡ true → timeOf (movedTo clock tick) ≡ tick % tickLimit
+  moved-time e = rw (moved-total e, moved-t0) (counter-ahead (clock .t0) (clock .total) tick)
 
   -- a tick before the time moves nothing
   pub moved-before : notBefore clock tick ≡ false → movedTo clock tick ≡ clock
-  unfolding movedTo
-  moved-before e = rw e
+  unfolding movedTo totalWith
+  moved-before e = rw (e, add-zero)
 
 -- ---- slides
 
@@ -61,38 +82,40 @@ div-mono : (n : ℕ) {x y : ℕ} → x ≤ y → x / n ≤ y / n
 div-mono zero h = simp div-zero (le-refl 0)
 div-mono (suc n) {x} h = le-div-iff-mul-le (zero-lt-suc n) .1 (le-trans (div-mul-le-self x (suc n)) h)
 
--- the slide of T0 is 0
-pub slide-first : (clock : Clock) → slideOf clock (clock .t0) ≡ 0
-unfolding slideOf
-slide-first clock = rw (sub-self, zero-div)
-
 -- a book opens in slide 0
 pub started-slide : (s : Settings) → openSlide (started s) ≡ 0
-started-slide s = slide-first (started s)
+unfolding openSlide
+started-slide s = zero-div (s .b)
 
 module _ (clock : Clock) (tick : ℕ) where
-  -- the slide of a tick that is not before the time is the open slide or a later one,
-  pub slide-later : notBefore clock tick ≡ true → openSlide clock ≤ slideOf clock tick
-  unfolding notBefore slideOf
-  slide-later e = let h : clock .time ≤ tick = leb-true _ _ e in div-mono (clock .b) (omega arith)
+  -- the total never falls,
+  pub total-later : clock .total ≤ movedTo clock tick .total
+  unfolding movedTo totalWith
+  total-later = omega arith
 
-  -- and the open slide once time has moved there
-  pub moved-slide : notBefore clock tick ≡ true → openSlide (movedTo clock tick) ≡ slideOf clock tick
-  unfolding movedTo slideOf
-  moved-slide e = rw e
+  -- so the slide of a tick is the open slide or a later one,
+  pub slide-later : openSlide clock ≤ slideOf clock tick
+  unfolding openSlide slideOf totalWith
+  slide-later = div-mono (clock .b) (omega arith)
 
-  -- a slide is below its limit; so the slide after it, and the first slide of the next chunk, are 64-bit numbers
-  pub slide-fits : tick < tickLimit → slideOf clock tick < slideLimit
-  unfolding slideOf
-  slide-fits fits = lt-of-le-of-lt (le-trans (div-le-self (tick - clock .t0) (clock .b)) (sub-le tick (clock .t0))) fits
+  -- its chunk is the open one or a later one,
+  pub chunk-later : chunkOf clock (openSlide clock) ≤ chunkOf clock (slideOf clock tick)
+  chunk-later = div-mono (clock .n) slide-later
 
-pub open-fits : (clock : Clock) → clock .time < tickLimit → openSlide clock < slideLimit
-open-fits clock = slide-fits clock (clock .time)
+  -- and it is the open slide once time has moved there
+  pub moved-slide : openSlide (movedTo clock tick) ≡ slideOf clock tick
+  unfolding openSlide movedTo slideOf
+  moved-slide = refl
 
--- and no lower limit would do: where T0 is 0 and B is 1, the slide of the last tick is the last below it
-pub slide-last : (time n : ℕ) (pad : List ℕ) → slideOf (record { t0 = 0; b = 1; time = time; n = n; pad = pad }) (tickLimit - 1) + 1 ≡ slideLimit
-unfolding slideOf
-slide-last time n pad = refl
+-- a slide is not above the largest total; so the slide after it, and the first slide of the next chunk, are 64-bit numbers
+pub open-fits : (clock : Clock) → clock .total ≤ totalMost → openSlide clock ≤ totalMost
+unfolding openSlide
+open-fits clock = le-trans (div-le-self (clock .total) (clock .b))
+
+-- and no lower limit would do: where B is 1, the slide of the largest total is that total
+pub slide-last : (t0 n : ℕ) (pad : List ℕ) → openSlide (record { total = totalMost; t0 = t0; b = 1; n = n; pad = pad }) ≡ totalMost
+unfolding openSlide
+slide-last t0 n pad = refl
 
 -- ---- chunks and places
 
@@ -166,7 +189,7 @@ pub record InRange (clock : Clock) : Type 0 where
   pub n-least : 1 ≤ clock .n
   pub n-most : clock .n ≤ 16
   pub b-least : 1 ≤ clock .b
-  pub time-from : clock .t0 ≤ clock .time
+  pub total-most : clock .total ≤ totalMost
 
 all-true : (a b c d : Bool) → (a && b && c && true && d) ≡ true → (a ≡ true) × (b ≡ true) × (c ≡ true) × (d ≡ true)
 all-true true true true d e = (refl, refl, refl, e)
@@ -177,95 +200,89 @@ all-true false b c d e = absurd (false≢true e)
 pub in-range : (clock : Clock) → (clockInRange clock ≡ true) ↔ InRange clock
 unfolding clockInRange
 in-range clock = (
-  λ e. let w : (leb 1 (clock .n) ≡ true) × (leb (clock .n) 16 ≡ true) × (leb 1 (clock .b) ≡ true) × (leb (clock .t0) (clock .time) ≡ true) = all-true _ _ _ _ e in
-      record { n-least = leb-true _ _ (w .0); n-most = leb-true _ _ (w .1); b-least = leb-true _ _ (w .2); time-from = leb-true _ _ (w .3) },
-  λ r. simp (le-leb _ _ (r .n-least), le-leb _ _ (r .n-most), le-leb _ _ (r .b-least), le-leb _ _ (r .time-from)),
+  λ e. let w : (leb 1 (clock .n) ≡ true) × (leb (clock .n) 16 ≡ true) × (leb 1 (clock .b) ≡ true) × (leb (clock .total) totalMost ≡ true) = all-true _ _ _ _ e in
+      record { n-least = leb-true _ _ (w .0); n-most = leb-true _ _ (w .1); b-least = leb-true _ _ (w .2); total-most = leb-true _ _ (w .3) },
+  λ r. simp (le-leb _ _ (r .n-least), le-leb _ _ (r .n-most), le-leb _ _ (r .b-least), le-leb _ _ (r .total-most)),
 )
 
 -- a book that opens has its clock in range,
 pub started-in-range : (s : Settings) → takenNumber s ≡ 0 → clockInRange (started s) ≡ true
 unfolding clockInRange
-started-in-range s e = held (leb 1 (s .n) && leb (s .n) 16 && leb 1 (s .b)) (eqb (s .mounting) 1 || eqb (s .mounting) 2) _ e (le-leb _ _ (le-refl (s .t0)))
+started-in-range s e = held (leb 1 (s .n) && leb (s .n) 16 && leb 1 (s .b)) (eqb (s .mounting) 1 || eqb (s .mounting) 2) _ e (le-leb 0 totalMost (omega arith))
   where
-    held : (slides mounting time : Bool) → _≡_ {A = ℕ} (cond (slides && mounting) 0 2) 0 → time ≡ true → (slides && true && time) ≡ true
-    held true mounting time e t = t
-    held false mounting time e t = absurd (omega arith)
+    held : (slides mounting total : Bool) → _≡_ {A = ℕ} (cond (slides && mounting) 0 2) 0 → total ≡ true → (slides && true && total) ≡ true
+    held true mounting total e t = t
+    held false mounting total e t = absurd (omega arith)
 
 -- and time moves within it
 pub moved-in-range : (clock : Clock) (tick : ℕ) → clockInRange clock ≡ true → clockInRange (movedTo clock tick) ≡ true
-unfolding movedTo notBefore
-moved-in-range clock tick e =
-    let r : InRange clock = in-range clock .0 e in
-    in-range (movedTo clock tick) .1 (record { n-least = r .n-least; n-most = r .n-most; b-least = r .b-least; time-from = le-trans (r .time-from) (later _ refl) })
+moved-in-range clock tick e = go _ refl
   where
-    later : (t : Bool) → leb (clock .time) tick ≡ t → clock .time ≤ cond t tick (clock .time)
-    later true q = leb-true _ _ q
-    later false q = le-refl (clock .time)
+    r : InRange clock
+    r = in-range clock .0 e
+
+    go : (t : Bool) → notBefore clock tick ≡ t → clockInRange (movedTo clock tick) ≡ true
+    go false q = rw (moved-before clock tick q) e
+    go true q =
+        in-range (movedTo clock tick) .1
+        (record {
+          n-least = rw (moved-n clock tick) (r .n-least);
+          n-most = rw (moved-n clock tick) (r .n-most);
+          b-least = rw (moved-b clock tick) (r .b-least);
+          total-most = rw (moved-total clock tick q) (not-before clock tick .0 q .room);
+        })
 
 -- ---- the ticks of a slide
 
--- a slide begins where ticks are exactly when it is not after the slide of the last tick
-module _ (t0 b slide : ℕ) (some : 0 < b) (fits : t0 < tickLimit) where
-  pub begins : slide ≤ (tickLimit - 1 - t0) / b → t0 + slide * b < tickLimit
-  begins h = omega (arith, le-div-iff-mul-le some .0 h)
+-- some total reaches a slide exactly when it is not after the slide of the largest total
+module _ (b slide : ℕ) (some : 0 < b) where
+  pub begins : slide ≤ totalMost / b → slide * b ≤ totalMost
+  begins = le-div-iff-mul-le some .0
 
-  pub never-begins : (tickLimit - 1 - t0) / b < slide → tickLimit ≤ t0 + slide * b
-  never-begins h = go (decLt (t0 + slide * b) tickLimit)
+  pub never-begins : totalMost / b < slide → totalMost < slide * b
+  never-begins h = go (decLt totalMost (slide * b))
     where
-      go : Dec (t0 + slide * b < tickLimit) → tickLimit ≤ t0 + slide * b
-      go (yes k) =
-          let m : slide * b ≤ tickLimit - 1 - t0 = omega arith in
-          absurd (omega (arith, le-div-iff-mul-le some .1 m))
-      go (no k) = omega arith
+      go : Dec (totalMost < slide * b) → totalMost < slide * b
+      go (yes k) = k
+      go (no k) =
+          let most : slide * b ≤ totalMost = omega (arith, k) in
+          absurd (omega (arith, h, le-div-iff-mul-le some .1 most))
 
--- where a slide has ticks, a tick from T0 on is of that slide exactly when it is one of them
-module _ (clock : Clock) (slide tick : ℕ) (exists : ticksOf clock slide .exists ≡ true) (from : clock .t0 ≤ tick) (fits : tick < tickLimit) where
-  some : 0 < clock .b
+-- where a slide has ticks, a total is of that slide exactly when it is one of its totals. Of a tick nothing of the kind can be said: the counter
+-- comes to it again with every turn
+module _ (clock : Clock) (slide total : ℕ) (exists : ticksOf clock slide .exists ≡ true) (most : total ≤ totalMost) where
+  abbrev first : ℕ
+  first = firstTotal clock slide
+
+  abbrev last : ℕ
+  last = min (first + (clock .b - 1)) totalMost
+
+  has : hasTicks clock slide ≡ true
   unfolding ticksIf
-  some = go (decLt 0 (clock .b))
+  has = go (hasTicks clock slide) exists
     where
-      go : Dec (0 < clock .b) → 0 < clock .b
-      go (yes h) = h
-      go (no h) = absurd (false≢true (sym (ap (λ t. ticksIf (t && ltb (firstTick clock slide) tickLimit) (firstTick clock slide) (clock .b) .exists) (le-ltb 0 (clock .b) (omega arith))) ∙ exists))
-
-  as-ticks : ticksOf clock slide ≡ ticksIf true (firstTick clock slide) (clock .b)
-  unfolding ticksIf
-  as-ticks = go (hasTicks clock slide) exists
-    where
-      go : (t : Bool) → ticksIf t (firstTick clock slide) (clock .b) .exists ≡ true → ticksIf t (firstTick clock slide) (clock .b) ≡ ticksIf true (firstTick clock slide) (clock .b)
+      go : (t : Bool) → ticksIf t (clock .t0) first last .exists ≡ true → t ≡ true
       go true e = refl
       go false e = absurd (false≢true e)
 
-  next : (slide + 1) * clock .b ≡ slide * clock .b + clock .b
-  next = omega (arith, add-mul slide 1 (clock .b))
+  some : 0 < clock .b
+  some = ltb-true _ _ (and-eq-true-iff (ltb 0 (clock .b)) _ .0 has .0)
 
-  pub slide-ticks : (slideOf clock tick ≡ slide) ↔ ((ticksOf clock slide .first ≤ tick) × (tick ≤ ticksOf clock slide .last))
-  unfolding slideOf ticksIf
-  slide-ticks = (there, back)
+  as-ticks : ticksOf clock slide ≡ ticksIf true (clock .t0) first last
+  as-ticks = ap (λ t. ticksIf t (clock .t0) first last) has
+
+  pub slide-totals : (total / clock .b ≡ slide) ↔ ((ticksOf clock slide .«first_total» ≤ total) × (total ≤ ticksOf clock slide .«last_total»))
+  unfolding ticksIf
+  slide-totals = rw as-ticks (there, back)
     where
-      there : slideOf clock tick ≡ slide → (ticksOf clock slide .first ≤ tick) × (tick ≤ ticksOf clock slide .last)
-      there e =
-          let low : slide * clock .b ≤ tick - clock .t0 = le-div-iff-mul-le some .0 (rw e (le-refl slide)) in
-          let high : tick - clock .t0 < slide * clock .b + clock .b = below (decLt (tick - clock .t0) (slide * clock .b + clock .b)) in
-          rw as-ticks (omega arith, omega arith)
-        where
-          below : Dec (tick - clock .t0 < slide * clock .b + clock .b) → tick - clock .t0 < slide * clock .b + clock .b
-          below (yes h) = h
-          below (no h) =
-              let m : (slide + 1) * clock .b ≤ tick - clock .t0 = rw next (omega arith) in
-              absurd (omega (arith, le-div-iff-mul-le some .1 m, e))
+      next : (slide + 1) * clock .b ≡ slide * clock .b + clock .b
+      next = omega (arith, add-mul slide 1 (clock .b))
 
-      back : (ticksOf clock slide .first ≤ tick) × (tick ≤ ticksOf clock slide .last) → slideOf clock tick ≡ slide
-      back w =
-          let v : (firstTick clock slide ≤ tick) × (tick ≤ ticksIf true (firstTick clock slide) (clock .b) .last) = rw as-ticks at w in
-          let low : slide * clock .b ≤ tick - clock .t0 = omega (arith, v .0) in
-          let least : slide ≤ slideOf clock tick = le-div-iff-mul-le some .1 low in
-          let most : slideOf clock tick < slide + 1 = above (decLt (slideOf clock tick) (slide + 1)) v in
-          omega arith
-        where
-          above : Dec (slideOf clock tick < slide + 1) → (firstTick clock slide ≤ tick) × (tick ≤ ticksIf true (firstTick clock slide) (clock .b) .last)
-              → slideOf clock tick < slide + 1
-          above (yes h) v = h
-          above (no h) v =
-              let m : slide + 1 ≤ (tick - clock .t0) / clock .b = omega arith in
-              absurd (omega (arith, le-div-iff-mul-le some .0 m, next, v .1, some))
+      there : total / clock .b ≡ slide → (first ≤ total) × (total ≤ last)
+      there e =
+          let low : slide * clock .b ≤ total = le-div-iff-mul-le some .0 (rw e (le-refl slide)) in
+          let high : total < (slide + 1) * clock .b = div-lt-iff-lt-mul some .0 (rw e (omega arith)) in
+          (low, omega (arith, high, next, most))
+
+      back : (first ≤ total) × (total ≤ last) → total / clock .b ≡ slide
+      back w = div-eq-of-lt-le (clock .b) (w .0) (omega (arith, w .1, next, some))

@@ -8,9 +8,7 @@ pub fn moved(clock: Clock, tick: u32) -> Clock
     ensures { λ r. ⌜ r ≡ movedTo clock tick ⌝ }
 {
     let mut later = clock;
-    if slides::not_before(clock, tick) {
-        later.time = tick;
-    }
+    later.total = slides::total_with(clock, tick);
     later
 }
 

@@ -102,3 +102,66 @@ fn with_output<A>(bytes: usize, call: impl FnOnce(&mut [u8]) -> A) -> (A, Vec<u8
     let mut out = lent_bytes(bytes);
     (call(&mut out), out)
 }
+
+#[cfg(test)]
+mod tests {
+    use crate::contenders;
+    use crate::script::for_library;
+    use crate::workload::{Batch, Calls, Workload};
+    use oracle::{Book, Settings, LOG_PLACES};
+    use streams::{ask, Call, Kind, Random};
+
+    fn fresh(settings: Settings) -> Workload {
+        Workload {
+            name: "a random history".to_string(),
+            settings: for_library(settings),
+            batches: Vec::new(),
+        }
+    }
+
+    fn batch(call: &Call) -> Option<Batch> {
+        let calls = match *call {
+            Call::Clock { tick, .. } => Calls::Clock(tick),
+            Call::Link { tick, a, b, .. } => Calls::Links(tick, vec![(a as u16, b as u16)]),
+            Call::Joined { first, second } => Calls::Joined(vec![(first as u16, second as u16)]),
+            Call::Chain { first, second, .. } => Calls::Chains(vec![(first as u16, second as u16)]),
+            _ => return None,
+        };
+        Some(Batch { calls, kind: None })
+    }
+
+    /// The workloads' ticks are few, and all of them are taken: here are ticks that pass the counter's end, that lie half a turn ahead
+    /// and that lie back.
+    #[test]
+    fn all_take_the_ticks_that_the_library_takes() {
+        let (mut refused, mut passes) = (0, 0);
+        for seed in 0..4 {
+            let mut book = Book::new();
+            let mut histories = Vec::new();
+            for mut call in Random::new(seed, Kind::HugeJumps).take(3_000) {
+                if let Call::Link { log_places, .. } | Call::Clock { log_places, .. } = &mut call {
+                    *log_places = LOG_PLACES;
+                }
+                let before = book.history.as_ref().map(|history| history.time);
+                let number = ask(&mut book, &call).number();
+                match (&call, histories.last_mut()) {
+                    (Call::Opening { settings, .. }, _) if number == 0 => {
+                        histories.push(fresh(*settings));
+                    }
+                    (_, Some(Workload { batches, .. })) => batches.extend(batch(&call)),
+                    _ => {}
+                }
+                refused += u32::from(number == 4);
+                let after = book.history.as_ref().map(|history| history.time);
+                let opened = matches!(call, Call::Opening { .. });
+                passes += u32::from(!opened && after < before);
+            }
+            for history in &histories {
+                for contender in contenders::all() {
+                    (contender.check)(history, contender.name);
+                }
+            }
+        }
+        assert!(refused > 200 && passes > 10, "{refused}, {passes}");
+    }
+}

@@ -44,6 +44,17 @@ pub fn touch(one: u16, other: u16) -> bool {
     one != other && rings <= 1 && (sectors <= 1 || sectors == 63)
 }
 
+/// The largest total of a book.
+pub const MOST_TOTAL: u64 = i64::MAX as u64;
+
+/// The total that a tick makes, for the baselines: none where it is half a turn of the counter or more ahead of the time, or where the
+/// total has run out.
+pub fn total_after(total: u64, time: u32, tick: u32) -> Option<u64> {
+    let ticks = tick.wrapping_sub(time);
+    let after = total + u64::from(ticks);
+    (ticks < 1 << 31 && after <= MOST_TOTAL).then_some(after)
+}
+
 /// The answer of a refused joined call.
 pub fn joined_refused(number: u8) -> JoinedAnswer {
     JoinedAnswer {
@@ -155,6 +166,29 @@ mod tests {
         for _ in 0..400 {
             let mask = streams::masks::draw_mask(&mut dice, &[]);
             assert_eq!(of_cells(&mask).is_some(), book.lamps(&mask).is_ok());
+        }
+    }
+
+    /// No workload brings the total near its limit, so this is where it would show.
+    #[test]
+    fn ticks_make_the_oracles_totals() {
+        let limit = MOST_TOTAL;
+        for total in [0, 1, 7 << 32, limit - (1 << 31), limit - 1, limit] {
+            for t0 in [0, 77, 1 << 31, u32::MAX] {
+                let settings = oracle::Settings {
+                    n: 3,
+                    b: 10,
+                    mounting: 1,
+                    t0,
+                };
+                let history = oracle::History::at_total(settings, total.into());
+                for ticks in [0, 1, 2, (1 << 31) - 1, 1 << 31, u32::MAX] {
+                    let tick = history.time.wrapping_add(ticks);
+                    let theirs = history.total_at(tick).ok();
+                    let ours = total_after(total, history.time, tick);
+                    assert_eq!(ours.map(u128::from), theirs);
+                }
+            }
         }
     }
 

@@ -75,11 +75,11 @@ impl<const EACH_CHANGE: bool> AnyBook for Components<EACH_CHANGE> {
     }
 
     fn link(&mut self, tick: u32, one: u16, other: u16) -> u8 {
-        let number = self.window.link_number(tick, one, other);
-        if number != 0 {
-            return number;
-        }
-        let slid = self.window.move_to(tick);
+        let total = match self.window.judge_link(tick, one, other) {
+            Ok(total) => total,
+            Err(number) => return number,
+        };
+        let slid = self.window.move_to(tick, total);
         let link = self.window.store(one, other);
         if slid || EACH_CHANGE {
             self.groups = Groups::of(&self.window);
@@ -90,11 +90,11 @@ impl<const EACH_CHANGE: bool> AnyBook for Components<EACH_CHANGE> {
     }
 
     fn clock(&mut self, tick: u32) -> u8 {
-        let number = self.window.clock_number(tick);
-        if number != 0 {
-            return number;
-        }
-        if self.window.move_to(tick) {
+        let total = match self.window.judge_clock(tick) {
+            Ok(total) => total,
+            Err(number) => return number,
+        };
+        if self.window.move_to(tick, total) {
             self.groups = Groups::of(&self.window);
         }
         0

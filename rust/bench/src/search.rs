@@ -70,20 +70,24 @@ impl AnyBook for Search {
     }
 
     fn link(&mut self, tick: u32, one: u16, other: u16) -> u8 {
-        let number = self.window.link_number(tick, one, other);
-        if number == 0 {
-            self.window.move_to(tick);
-            self.window.store(one, other);
+        match self.window.judge_link(tick, one, other) {
+            Err(number) => number,
+            Ok(total) => {
+                self.window.move_to(tick, total);
+                self.window.store(one, other);
+                0
+            }
         }
-        number
     }
 
     fn clock(&mut self, tick: u32) -> u8 {
-        let number = self.window.clock_number(tick);
-        if number == 0 {
-            self.window.move_to(tick);
+        match self.window.judge_clock(tick) {
+            Err(number) => number,
+            Ok(total) => {
+                self.window.move_to(tick, total);
+                0
+            }
         }
-        number
     }
 
     fn joined(&mut self, one: u16, other: u16) -> JoinedAnswer {

@@ -143,9 +143,10 @@ fn files(stacks: &mut Vec<Stack>) {
     let small = used(|| {
         black_box(kerb::pack(black_box(1), UnitCell(2), UnitCell(3)));
         black_box(kerb::unpack(&file, black_box(7)).expect("a record"));
-        black_box((book.open_slide(), book.slide_ticks(black_box(2))));
+        black_box((book.time(), book.open_slide()));
+        black_box(book.slide_ticks(black_box(2)));
     });
-    stacks.push(("pack, unpack, open slide, slide ticks", small));
+    stacks.push(("pack, unpack, time, open slide, slide ticks", small));
     let cells = used(|| {
         black_box(UnitCell(black_box(5)).to_lorry(Mounting::Mirrored));
         black_box(LorryCell(black_box(5)).to_unit(Mounting::Mirrored));

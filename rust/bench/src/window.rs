@@ -1,6 +1,6 @@
 //! The window as a plain queue of links, for the baselines that keep nothing else: (c) and (d).
 
-use crate::any_book::{lorry_cell, touch};
+use crate::any_book::{lorry_cell, total_after, touch};
 use kerb::Settings;
 use std::collections::VecDeque;
 
@@ -19,6 +19,7 @@ pub struct Link {
 pub struct Window {
     settings: Settings,
     time: u32,
+    total: u64,
     links: VecDeque<Link>,
     /// Links of the open slide.
     stored: usize,
@@ -29,6 +30,7 @@ impl Window {
         Window {
             settings,
             time: settings.t0,
+            total: 0,
             links: VecDeque::with_capacity(16 * MOST_LINKS_OF_A_SLIDE),
             stored: 0,
         }
@@ -38,44 +40,39 @@ impl Window {
         u64::from(self.settings.n)
     }
 
-    fn slide(&self, tick: u32) -> u64 {
-        u64::from((tick - self.settings.t0) / self.settings.b)
+    fn slide(&self, total: u64) -> u64 {
+        total / u64::from(self.settings.b)
     }
 
     pub fn open_slide(&self) -> u64 {
-        self.slide(self.time)
+        self.slide(self.total)
     }
 
-    /// The number of the link call, number 1 aside.
-    pub fn link_number(&self, tick: u32, one: u16, other: u16) -> u8 {
+    /// The total that a link's tick makes, or the number of the link call, number 1 aside.
+    pub fn judge_link(&self, tick: u32, one: u16, other: u16) -> Result<u64, u8> {
         if !are_cells(one, other) {
-            return 3;
+            return Err(3);
         }
         if !touch(one, other) {
-            return 14;
+            return Err(14);
         }
-        if tick < self.time {
-            return 4;
+        let total = self.judge_clock(tick)?;
+        if self.slide(total) == self.open_slide() && self.stored == MOST_LINKS_OF_A_SLIDE {
+            return Err(5);
         }
-        if self.slide(tick) == self.open_slide() && self.stored == MOST_LINKS_OF_A_SLIDE {
-            return 5;
-        }
-        0
+        Ok(total)
     }
 
-    /// The number of the clock call, number 1 aside.
-    pub fn clock_number(&self, tick: u32) -> u8 {
-        if tick < self.time {
-            4
-        } else {
-            0
-        }
+    /// The total that a tick makes, or the number of the clock call, number 1 aside.
+    pub fn judge_clock(&self, tick: u32) -> Result<u64, u8> {
+        total_after(self.total, self.time, tick).ok_or(4)
     }
 
     /// Moves the time and drops what is no longer in the window; says whether the window has slid.
-    pub fn move_to(&mut self, tick: u32) -> bool {
+    pub fn move_to(&mut self, tick: u32, total: u64) -> bool {
         let before = self.open_slide();
         self.time = tick;
+        self.total = total;
         let open = self.open_slide();
         if open == before {
             return false;

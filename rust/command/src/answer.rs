@@ -1,6 +1,6 @@
 //! From a question to the text and the status of its answer.
 
-use crate::args::{Body, Input, Output, Question, Request};
+use crate::args::{Body, Input, Output, Question, Request, When};
 use crate::body::{self, Mask};
 use crate::lamps::lamps;
 use crate::recording::Recording;
@@ -40,9 +40,10 @@ pub fn answer(Request { question, as_json }: Request) -> Result<Answer, Trouble>
             input,
             one,
             other,
-            at,
+            when,
         } => {
-            let recording = Recording::played(&recording(&input)?, at).map_err(refused(as_json))?;
+            let recording =
+                Recording::played(&recording(&input)?, when).map_err(refused(as_json))?;
             let why = recording.why(one, other).map_err(refused(as_json))?;
             let said = if as_json { json::why } else { words::why };
             Ok(Answer {
@@ -50,15 +51,17 @@ pub fn answer(Request { question, as_json }: Request) -> Result<Answer, Trouble>
                 ..Answer::of(said(&recording, (one, other), why.as_ref()))
             })
         }
-        Question::Groups { input, at } => {
-            let recording = Recording::played(&recording(&input)?, at).map_err(refused(as_json))?;
+        Question::Groups { input, when } => {
+            let recording =
+                Recording::played(&recording(&input)?, when).map_err(refused(as_json))?;
             let groups = recording.groups().map_err(refused(as_json))?;
             let said = if as_json { json::groups } else { words::groups };
             Ok(Answer::of(said(&recording, &groups)))
         }
-        Question::Lamps { input, body, at } => {
+        Question::Lamps { input, body, when } => {
             let body = mask(body)?;
-            let recording = Recording::played(&recording(&input)?, at).map_err(refused(as_json))?;
+            let recording =
+                Recording::played(&recording(&input)?, when).map_err(refused(as_json))?;
             let lamps = lamps(&recording, &body).map_err(refused(as_json))?;
             let said = if as_json { json::lamps } else { words::lamps };
             Ok(Answer::of(said(&recording, &body, &lamps)))
@@ -115,7 +118,7 @@ fn refused(as_json: bool) -> impl Fn(Refused) -> Trouble {
 
 /// What kerblist prints, which for a refusal is a line too.
 fn list(file: &[u8], as_json: bool) -> Result<Answer, Trouble> {
-    let played = Recording::played(file, None);
+    let played = Recording::played(file, When::AtTheEnd);
     if as_json {
         let recording = played.map_err(refused(as_json))?;
         let groups = recording.groups().map_err(refused(as_json))?;

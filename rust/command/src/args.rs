@@ -2,6 +2,7 @@
 
 use crate::body::{self, Mask};
 use crate::help;
+use crate::recording::REACH;
 use crate::trouble::Trouble;
 use kerb::calls::Settings;
 use kerb::{LorryCell, Mounting};
@@ -21,6 +22,17 @@ pub enum Body {
     Cells(Mask),
     /// A list that is still to be read.
     In(Input),
+}
+
+/// Which moment of a recording is asked about.
+#[derive(Clone, Copy, Debug, PartialEq)]
+pub enum When {
+    /// The last record's.
+    AtTheEnd,
+    /// The first since T0 at which the counter stands at this tick.
+    Tick(u32),
+    /// So many ticks after T0.
+    Total(u64),
 }
 
 /// Where the answer goes.
@@ -47,16 +59,16 @@ pub enum Question {
         input: Input,
         one: LorryCell,
         other: LorryCell,
-        at: Option<u32>,
+        when: When,
     },
     Groups {
         input: Input,
-        at: Option<u32>,
+        when: When,
     },
     Lamps {
         input: Input,
         body: Body,
-        at: Option<u32>,
+        when: When,
     },
     Cell {
         number: u16,
@@ -79,11 +91,21 @@ pub enum Question {
 /// The commands whose answers can be had as JSON.
 const ANSWERS: &[&str] = &["list", "why", "groups", "lamps", "cell", "mirror-table"];
 
+/// The commands that ask about a moment.
+const OF_A_MOMENT: &[&str] = &["why", "groups", "lamps"];
+
+/// The largest total that there is.
+const LAST_TOTAL: u64 = 9_223_372_036_854_775_807;
+
+/// How many clock calls may be made to reach a total: half a second's work, and 6,800 years of milliseconds.
+const MOST_CALLS: u64 = 100_000;
+
 /// The words of a command line, options apart from the rest.
 #[derive(Default)]
 struct Words {
     plain: Vec<OsString>,
     at: Option<OsString>,
+    total: Option<OsString>,
     body: Option<OsString>,
     n: Option<OsString>,
     b: Option<OsString>,
@@ -120,8 +142,8 @@ fn question(command: &OsStr, mut words: Words) -> Result<Question, Trouble> {
     if words.help {
         return Ok(Question::Help(text));
     }
-    let at = words.at.is_some();
-    takes(name, "--at", at, &["why", "groups", "lamps"])?;
+    takes(name, "--at", words.at.is_some(), OF_A_MOMENT)?;
+    takes(name, "--total", words.total.is_some(), OF_A_MOMENT)?;
     takes(name, "--body", words.body.is_some(), &["lamps"])?;
     let mounted = words.mounting.is_some();
     takes(name, "--mounting", mounted, &["cell", "to-file"])?;
@@ -135,7 +157,7 @@ fn question(command: &OsStr, mut words: Words) -> Result<Question, Trouble> {
         "list" => Ok(Question::List(only_input(name, plain)?)),
         "groups" => Ok(Question::Groups {
             input: only_input(name, plain)?,
-            at: words.at.map(tick).transpose()?,
+            when: when(words.at, words.total)?,
         }),
         "why" => {
             let (Some(other), Some(one)) = (plain.pop(), plain.pop()) else {
@@ -145,7 +167,7 @@ fn question(command: &OsStr, mut words: Words) -> Result<Question, Trouble> {
                 one: LorryCell(cell(&one)?),
                 other: LorryCell(cell(&other)?),
                 input: only_input(name, plain)?,
-                at: words.at.map(tick).transpose()?,
+                when: when(words.at, words.total)?,
             })
         }
         "lamps" => {
@@ -155,8 +177,8 @@ fn question(command: &OsStr, mut words: Words) -> Result<Question, Trouble> {
                     "the recording and the bodywork cannot both be standard input",
                 ));
             }
-            let at = words.at.map(tick).transpose()?;
-            Ok(Question::Lamps { input, body, at })
+            let when = when(words.at, words.total)?;
+            Ok(Question::Lamps { input, body, when })
         }
         "cell" => {
             let [number] = plain.as_slice() else {
@@ -213,6 +235,7 @@ fn sorted(mut all: impl Iterator<Item = OsString>) -> Result<Words, Trouble> {
             ("--version" | "-V", None) => words.version = true,
             ("--json", None) => words.json = true,
             ("--at", _) => once(&mut words.at, name, joined.or_else(|| all.next()))?,
+            ("--total", _) => once(&mut words.total, name, joined.or_else(|| all.next()))?,
             ("--body", _) => once(&mut words.body, name, joined.or_else(|| all.next()))?,
             ("--n", _) => once(&mut words.n, name, joined.or_else(|| all.next()))?,
             ("--b", _) => once(&mut words.b, name, joined.or_else(|| all.next()))?,
@@ -333,6 +356,36 @@ fn number(word: &OsStr, what: &str) -> Result<u64, Trouble> {
 fn cell(word: &OsStr) -> Result<u16, Trouble> {
     let number = number(word, "a cell")?;
     Ok(u16::try_from(number).unwrap_or(u16::MAX))
+}
+
+/// The moment that `--at` or `--total` names; without either it is the last record's.
+fn when(at: Option<OsString>, of_total: Option<OsString>) -> Result<When, Trouble> {
+    match (at, of_total) {
+        (None, None) => Ok(When::AtTheEnd),
+        (Some(at), None) => Ok(When::Tick(tick(at)?)),
+        (None, Some(of_total)) => Ok(When::Total(total(of_total)?)),
+        (Some(_), Some(_)) => Err(wrong(
+            "--at and --total name a moment each: one of them is enough",
+        )),
+    }
+}
+
+/// A total, as far as clock calls may go.
+fn total(word: OsString) -> Result<u64, Trouble> {
+    let number = number(&word, "a total")?;
+    let word = word.to_string_lossy();
+    if number > LAST_TOTAL {
+        return Err(wrong(&format!(
+            "{word} is no total: totals go from 0 to {LAST_TOTAL}"
+        )));
+    }
+    let most = MOST_CALLS * u64::from(REACH);
+    if number > most {
+        return Err(wrong(&format!(
+            "{word} is too far ahead: a clock call reaches {REACH} ticks, and kerb makes {MOST_CALLS} of them at most, up to the total {most}"
+        )));
+    }
+    Ok(number)
 }
 
 fn tick(word: OsString) -> Result<u32, Trouble> {

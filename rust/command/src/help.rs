@@ -32,7 +32,8 @@ kerb: ask a recording (a link file) what the panel saw as one thing, and why
   kerb help [COMMAND]                  this page, or that of a command
   kerb --version
 
-  --at TICK        why, groups, lamps: as it was at that tick
+  --at TICK        why, groups, lamps: as it was when the counter first stood at that tick
+  --total N        why, groups, lamps: as it was N ticks after T0, past the counter's end too
   --body LIST      lamps: the bodywork's cells, as 94-96,128; or a file that has them; or none
   --mounting M     cell, to-file: how the unit is fitted, 1 (plain) or 2 (mirrored)
   --n, --b, --t0   to-file: the other settings; all four are wanted
@@ -40,7 +41,8 @@ kerb: ask a recording (a link file) what the panel saw as one thing, and why
   --json           list, why, groups, lamps, cell, mirror-table: the answer as one line of JSON
 
 No FILE or TEXT, or -, is standard input. Cells are numbered as the lorry has them, in text lists
-as the unit has them.
+as the unit has them. Where the counter has passed its end, the total, the ticks since T0, stands
+beside each tick.
 
 Status: 0 done, or joined; 1 not joined; 2 refused, with the number and its meaning on standard
 error; 3 wrong use, or a file that cannot be read or written.
@@ -59,29 +61,36 @@ is refused with number 14, and the two are told.
 ";
 
 const WHY: &str = "\
-kerb why [FILE] ONE OTHER [--at TICK] [--json]
+kerb why [FILE] ONE OTHER [--at TICK | --total N] [--json]
 
 Why two cells, in the lorry's numbers, count as one thing: the chain of cells from ONE to OTHER, each
 with its ring and sector; for each link of the chain the newest slide that has it; L, the newest slide
 from which on links tie the two; and until which tick they stay joined if nothing more is seen.
 
+The unit's counter goes round: after 4294967295 comes 0. The book counts the total, the ticks since T0,
+and a slide is a stretch of totals. An answer that tells of a moment past the counter's end has the
+totals beside all its ticks. One without them tells of none: there the total is the tick less T0.
+
 --at TICK plays only the records up to that tick and then moves the clock to it: the answer that the
-panel would have had then. Without it the answer is that at the last record.
+panel would have had then. It is the first moment since T0 at which the counter stands at TICK.
+--total N is the same for the total N, in any turn of the counter. Without either the answer is that at
+the last record.
 
 Status 0: joined. Status 1: nothing in the window ties them.
 ";
 
 const GROUPS: &str = "\
-kerb groups [FILE] [--at TICK] [--json]
+kerb groups [FILE] [--at TICK | --total N] [--json]
 
 Each group of two cells or more that links of the window tie together: all its cells, in the lorry's
 numbers, its least hold, and until which tick all of them stay together if nothing more is seen.
 
---at TICK plays only the records up to that tick and then moves the clock to it.
+--at TICK plays only the records up to that tick and then moves the clock to it; --total N the same for
+the total, the ticks since T0. kerb help why has more on both.
 ";
 
 const LAMPS: &str = "\
-kerb lamps [FILE] --body LIST [--at TICK] [--json]
+kerb lamps [FILE] --body LIST [--at TICK | --total N] [--json]
 
 Which of the two lamps is lit, and why. The left lamp's zone is sectors 33 to 63, the right one's sectors
 1 to 31, both in rings 0 to 5. A lamp is lit where its zone has a cell that is an end of a link of the
@@ -98,7 +107,8 @@ or none, where there is no bodywork; or else the name of a file that has such a 
 stand on any number of lines, parted by commas or blanks, and from # on a line is a remark; an empty file
 says that there is no bodywork. - is standard input.
 
---at TICK plays only the records up to that tick and then moves the clock to it.
+--at TICK plays only the records up to that tick and then moves the clock to it; --total N the same for
+the total, the ticks since T0. kerb help why has more on both.
 
 Status 0: told, whether lit or dark.
 ";

@@ -3,7 +3,7 @@
 use crate::body;
 use crate::lamps::{Lamp, Side, Tied};
 use crate::recording::{Group, Groups, Moment, Recording, Seen, Why};
-use kerb::{LorryCell, Mounting, UnitCell};
+use kerb::{LorryCell, Mounting, SlideTicks, UnitCell};
 use std::fmt;
 
 #[derive(Debug)]
@@ -113,7 +113,8 @@ fn chain(why: &Why) -> Fields {
         ("links", Json::list(why.links.iter().map(link))),
         ("newest", ticks_of(why.newest, why.newest_ticks)),
         ("hold", Json::from(why.hold)),
-        ("until", Json::or_null(why.until)),
+        ("until", Json::or_null(why.until.map(|at| at.tick))),
+        ("until_total", Json::or_null(why.until.map(|at| at.total))),
     ]
 }
 
@@ -122,7 +123,8 @@ pub fn groups(recording: &Recording, groups: &Groups) -> String {
         Json::Object(vec![
             ("cells", numbers(group.cells.iter().copied())),
             ("hold", Json::from(group.hold)),
-            ("until", Json::or_null(group.until)),
+            ("until", Json::from(group.until.tick)),
+            ("until_total", Json::from(group.until.total)),
         ])
     };
     let mut fields = moment(recording.now());
@@ -152,7 +154,7 @@ fn state(lamp: &Lamp) -> Json {
             };
             fields.push(("reason", Json::Text(reason)));
             fields.push(("bodywork", numbers(bodywork.iter().copied())));
-            fields.extend(tied.as_ref().map(keeps_dark).unwrap_or_default());
+            fields.extend(tied.as_deref().map(keeps_dark).unwrap_or_default());
         }
     }
     Json::Object(fields)
@@ -218,14 +220,17 @@ fn numbered(cell: u16, ring: u16, sector: u16) -> Fields {
 fn moment(at: Moment) -> Fields {
     vec![
         ("tick", Json::from(at.tick)),
+        ("total", Json::from(at.total)),
         ("slide", Json::from(at.slide)),
     ]
 }
 
-fn ticks_of(slide: u64, ticks: Option<(u32, u32)>) -> Json {
+fn ticks_of(slide: u64, ticks: SlideTicks) -> Json {
     Json::Object(vec![
         ("slide", Json::from(slide)),
-        ("first", Json::or_null(ticks.map(|(first, _)| first))),
-        ("last", Json::or_null(ticks.map(|(_, last)| last))),
+        ("first", Json::from(ticks.first)),
+        ("last", Json::from(ticks.last)),
+        ("first_total", Json::from(ticks.first_total)),
+        ("last_total", Json::from(ticks.last_total)),
     ])
 }

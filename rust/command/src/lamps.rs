@@ -46,7 +46,7 @@ pub enum Lamp {
     /// Dark, with the linked cells of its zone: those that are bodywork, and those that are tied to it.
     Dark {
         bodywork: Vec<LorryCell>,
-        tied: Option<Tied>,
+        tied: Option<Box<Tied>>,
     },
 }
 
@@ -77,11 +77,11 @@ fn dark(recording: &Recording, body: &[u8], side: Side, groups: &Groups) -> Lamp
     let (bodywork, cells): (Vec<_>, Vec<_>) = linked.into_iter().partition(is_body);
     let tied = cells.first().copied().map(|smallest| {
         let why = recording.why_any(smallest, body::cells(body));
-        Tied {
+        Box::new(Tied {
             why: why.expect("a linked cell of a dark zone is joined with bodywork"),
             lights: lights(recording, body, side),
             cells,
-        }
+        })
     });
     Lamp::Dark { bodywork, tied }
 }
@@ -89,7 +89,7 @@ fn dark(recording: &Recording, body: &[u8], side: Side, groups: &Groups) -> Lamp
 /// The first slide, of those that are open while the window runs out, in which the lamp is lit if nothing more is seen.
 fn lights(recording: &Recording, body: &[u8], side: Side) -> Option<(Moment, LorryCell)> {
     (1..recording.settings.n).find_map(|closings| {
-        let later = recording.after(closings)?;
+        let later = recording.after(closings);
         let cell = side.of(later.lit(body).ok()?)?;
         Some((later.now(), cell))
     })
@@ -98,6 +98,8 @@ fn lights(recording: &Recording, body: &[u8], side: Side) -> Option<(Moment, Lor
 #[cfg(test)]
 mod tests {
     use super::*;
+    use crate::args::When;
+    use crate::recording::tests::with_totals;
     use kerb::{Book, Mounting, Settings, UnitCell};
     use std::cmp::Reverse;
     use std::collections::BTreeSet;
@@ -148,19 +150,18 @@ mod tests {
         mask
     }
 
-    /// The first tick of a slide, by the arithmetic of the rules.
-    fn first_tick(settings: Settings, slide: u64) -> Option<u32> {
-        let tick = u64::from(settings.t0) + slide * u64::from(settings.b);
-        tick.try_into().ok()
+    /// The total at the first tick of a slide, by the arithmetic of the rules.
+    fn first_total(settings: Settings, slide: u64) -> u64 {
+        slide * u64::from(settings.b)
     }
 
-    /// The cells that are an end of a link of the window, by all records of the file and the window's first tick.
+    /// The cells that are an end of a link of the window, by all records of the file and the window's first total.
     fn linked(file: &[u8], recording: &Recording) -> BTreeSet<LorryCell> {
         let settings = recording.settings;
         let window = (recording.now().slide + 1).saturating_sub(settings.n.into());
-        let records = (0..kerb::read(file).unwrap().1).map(|i| kerb::unpack(file, i).unwrap());
-        let of_window = records.filter(|record| Some(record.tick) >= first_tick(settings, window));
-        let ends = of_window.flat_map(|record| [record.one, record.other]);
+        let records = with_totals(file).into_iter();
+        let of_window = records.filter(|&(_, total)| total >= first_total(settings, window));
+        let ends = of_window.flat_map(|(record, _)| [record.one, record.other]);
         ends.map(|cell| cell.to_lorry(settings.mounting)).collect()
     }
 
@@ -171,14 +172,15 @@ mod tests {
         best.min().expect("it is joined with bodywork").2
     }
 
-    /// When the lamp comes on, by the recording as it is at the first tick of each later slide.
-    fn comes_on(file: &[u8], mask: &[u8], side: Side) -> Option<(u32, LorryCell)> {
-        let recording = Recording::played(file, None).unwrap();
-        let later = recording.now().slide + 1..recording.now().slide + 20;
-        later.into_iter().find_map(|slide| {
-            let tick = first_tick(recording.settings, slide)?;
-            let then = Recording::played(file, Some(tick)).unwrap();
-            Some((tick, side.of(then.lit(mask).unwrap())?))
+    /// When the lamp comes on, by the recording as it is at the first total of each later slide.
+    fn comes_on(file: &[u8], mask: &[u8], side: Side) -> Option<(u64, LorryCell)> {
+        let recording = Recording::played(file, When::AtTheEnd).unwrap();
+        // after n closings the window has nothing of the recording
+        (1..=recording.settings.n).find_map(|closings| {
+            let slide = recording.now().slide + u64::from(closings);
+            let total = first_total(recording.settings, slide);
+            let then = Recording::played(file, When::Total(total)).unwrap();
+            Some((total, side.of(then.lit(mask).unwrap())?))
         })
     }
 
@@ -190,9 +192,7 @@ mod tests {
         let (mut lit, mut dark, mut long, mut coming_on) = (0, 0, 0, 0);
         for _ in 0..300 {
             let file = valid_file(&mut dice);
-            let Ok(recording) = Recording::played(&file, None) else {
-                continue;
-            };
+            let recording = Recording::played(&file, When::AtTheEnd).unwrap();
             let mask = draw_mask(&mut dice, &recording.groups().unwrap());
             let both = lamps(&recording, &mask).unwrap();
             for (side, lamp) in Side::BOTH.into_iter().zip(both) {
@@ -211,7 +211,7 @@ mod tests {
                 }
                 let smallest = tied.cells[0];
                 assert_eq!(tied.why.chain, best_chain(&recording, &mask, smallest));
-                let lights = tied.lights.map(|(at, cell)| (at.tick, cell));
+                let lights = tied.lights.map(|(at, cell)| (at.total, cell));
                 assert_eq!(lights, comes_on(&file, &mask, side));
                 dark += 1;
                 long += u32::from(tied.why.chain.len() > 2);

@@ -3,7 +3,7 @@
 use crate::body;
 use crate::lamps::{Lamp, Side, Tied};
 use crate::recording::{Groups, Moment, Recording, Why};
-use kerb::{LorryCell, Mounting, Settings, UnitCell};
+use kerb::{LorryCell, Mounting, Settings, SlideTicks, UnitCell};
 use std::io::Write;
 
 pub fn version() -> String {
@@ -35,7 +35,9 @@ pub fn why(
     (one, other): (LorryCell, LorryCell),
     why: Option<&Why>,
 ) -> String {
-    let now = moment(recording.now());
+    let until = why.and_then(|why| why.until);
+    let told = Told::of(recording, until);
+    let now = told.moment(recording.now());
     let Some(why) = why else {
         let (one, other, window) = (one.0, other.0, window(recording));
         return format!(
@@ -43,32 +45,31 @@ pub fn why(
         );
     };
     if one == other {
-        return format!("Cell {} is joined with itself, always.\n", one.0);
+        let until = told.until(why.until);
+        return format!("Cell {} is joined with itself, {until}.\n", one.0);
     }
-    let (one, other, chain) = (one.0, other.0, chain(why));
+    let (one, other, chain) = (one.0, other.0, chain(why, told));
     format!("Cells {one} and {other} are joined {now}, by this chain:\n\n{chain}")
 }
 
 /// The chain of two different cells, and for how long it ties them.
-fn chain(why: &Why) -> String {
+fn chain(why: &Why, told: Told) -> String {
     let mut text = String::new();
     for link in &why.links {
         text += &format!("  {}\n", place(link.one));
         text += &format!(
             "      linked with cell {}, last {}\n",
             link.other.0,
-            moment(link.last)
+            told.moment(link.last)
         );
     }
     text += &format!("  {}\n\n", place(why.ends().1));
-    let ticks = why.newest_ticks.map_or(String::new(), |(first, last)| {
-        format!(", ticks {first} to {last}")
-    });
-    text += &format!("L is slide {}{ticks}: links from it on tie the two, and links from the next slide on do not.\n", why.newest);
+    let (newest, ticks) = (why.newest, told.ticks(why.newest_ticks));
+    text += &format!("L is slide {newest}, {ticks}: links from it on tie the two, and links from the next slide on do not.\n");
     text += &format!(
         "Hold {}: if nothing more is seen, they stay joined {}.\n",
         why.hold,
-        until(why.until)
+        told.until(why.until)
     );
     text
 }
@@ -78,14 +79,15 @@ pub fn groups(recording: &Recording, groups: &Groups) -> String {
         counted(groups.groups.len(), "group"),
         counted(groups.links as usize, "link"),
     );
-    let (now, window) = (moment(recording.now()), window(recording));
+    let told = Told::of(recording, groups.groups.iter().map(|group| group.until));
+    let (now, window) = (told.moment(recording.now()), window(recording));
     let mut text = format!("{found} {now}; {links} in the {window}.\n");
     for group in &groups.groups {
         let size = counted(group.cells.len(), "cell");
         text += &format!(
             "\n{size}, least hold {}: if nothing more is seen, all stay together {}\n",
             group.hold,
-            until(group.until)
+            told.until(Some(group.until))
         );
         text += &format!("  {}\n", numbers(&group.cells));
     }
@@ -93,17 +95,23 @@ pub fn groups(recording: &Recording, groups: &Groups) -> String {
 }
 
 pub fn lamps(recording: &Recording, body: &[u8], lamps: &[Lamp; 2]) -> String {
-    let now = moment(recording.now());
+    let tied = lamps.iter().filter_map(|lamp| match lamp {
+        Lamp::Dark { tied, .. } => tied.as_deref(),
+        Lamp::Lit(_) => None,
+    });
+    let moments = tied.flat_map(|tied| [tied.why.until, tied.lights.map(|(at, _)| at)]);
+    let told = Told::of(recording, moments.flatten());
+    let now = told.moment(recording.now());
     let bodywork = counted(body::cells(body).count(), "cell");
     let mut text = format!("The lamps {now}, with {bodywork} of bodywork:\n");
     for (side, lamp) in Side::BOTH.iter().zip(lamps) {
-        text += &format!("\nThe {} lamp is {}", side.name(), state(lamp));
+        text += &format!("\nThe {} lamp is {}", side.name(), state(lamp, told));
     }
     text
 }
 
 /// Lit or dark, and why.
-fn state(lamp: &Lamp) -> String {
+fn state(lamp: &Lamp, told: Told) -> String {
     let (bodywork, tied) = match lamp {
         Lamp::Lit(cell) => return format!("lit, by {}.\n", place(*cell)),
         Lamp::Dark { bodywork, tied } => (bodywork, tied),
@@ -116,15 +124,16 @@ fn state(lamp: &Lamp) -> String {
         let (count, cells) = (counted(bodywork.len(), "cell"), numbers(bodywork));
         text += &format!("  {count} of bodywork: {cells}\n");
     }
-    text + &tied.as_ref().map_or(String::new(), keeps_dark)
+    let dark_by = tied.as_ref().map(|tied| keeps_dark(tied, told));
+    text + &dark_by.unwrap_or_default()
 }
 
 /// What keeps a lamp dark, and until when.
-fn keeps_dark(tied: &Tied) -> String {
+fn keeps_dark(tied: &Tied, told: Told) -> String {
     let (count, cells) = (counted(tied.cells.len(), "cell"), numbers(&tied.cells));
     let (smallest, end) = tied.why.ends();
     let then = match tied.lights {
-        Some((at, cell)) => format!("comes on {}, by {}", moment(at), place(cell)),
+        Some((at, cell)) => format!("comes on {}, by {}", told.moment(at), place(cell)),
         None => "stays dark".to_string(),
     };
     format!(
@@ -134,7 +143,7 @@ fn keeps_dark(tied: &Tied) -> String {
          If nothing more is seen, the lamp {then}.\n",
         smallest.0,
         end.0,
-        chain(&tied.why)
+        chain(&tied.why, told)
     )
 }
 
@@ -206,13 +215,49 @@ fn place(cell: LorryCell) -> String {
     )
 }
 
-fn moment(at: Moment) -> String {
-    format!("at tick {}, in slide {}", at.tick, at.slide)
+/// How the moments of an answer are told. Their ticks alone tell which comes first, as long as the counter does not pass its end
+/// between T0 and the last of them. Where it does, all have their totals beside the ticks.
+#[derive(Clone, Copy)]
+struct Told {
+    totals: bool,
 }
 
-fn until(tick: Option<u32>) -> String {
-    match tick {
-        Some(tick) => format!("up to and including tick {tick}"),
-        None => "for as long as there are ticks".to_string(),
+impl Told {
+    /// For an answer that tells of these moments and of now. Links that were seen, and the slide that L is, come before the last of them.
+    fn of(recording: &Recording, moments: impl IntoIterator<Item = Moment>) -> Told {
+        let t0 = u64::from(recording.settings.t0);
+        let mut all = moments.into_iter().chain([recording.now()]);
+        Told {
+            totals: all.any(|at| t0 + at.total > u32::MAX.into()),
+        }
+    }
+
+    fn moment(self, at: Moment) -> String {
+        format!("at {}, in slide {}", self.tick(at), at.slide)
+    }
+
+    fn until(self, at: Option<Moment>) -> String {
+        match at {
+            Some(at) => format!("up to and including {}", self.tick(at)),
+            None => "always".to_string(),
+        }
+    }
+
+    fn tick(self, at: Moment) -> String {
+        let Moment { tick, total, .. } = at;
+        if self.totals {
+            format!("tick {tick}, total {total}")
+        } else {
+            format!("tick {tick}")
+        }
+    }
+
+    fn ticks(self, of: SlideTicks) -> String {
+        let ticks = format!("ticks {} to {}", of.first, of.last);
+        if self.totals {
+            format!("{ticks}, totals {} to {}", of.first_total, of.last_total)
+        } else {
+            ticks
+        }
     }
 }

@@ -93,11 +93,14 @@ fn at_a_tick_the_book_is_what_it_was_then() {
         ("50", 0),
         ("499", 0),
         ("500", 1),
-        ("4294967295", 1),
+        ("2147483647", 1),
     ] {
         for file in [LIFT, LATER] {
-            let ran = kerb(&["why", file, "94", "227", "--at", tick]);
-            assert_eq!(ran.status, status, "{file} at {tick}");
+            for option in ["--at", "--total"] {
+                // T0 is 0: as long as the counter has not passed its end the total is the tick
+                let ran = kerb(&["why", file, "94", "227", option, tick]);
+                assert_eq!(ran.status, status, "{file} at {tick}");
+            }
         }
     }
     // as the shorter recording, with the clock moved
@@ -119,6 +122,14 @@ fn at_a_tick_the_book_is_what_it_was_then() {
     let file = recording(settings, &wrong);
     assert_eq!(kerb_fed(&["groups"], &file).status, 2);
     assert_eq!(kerb_fed(&["groups", "--at", "19"], &file).status, 0);
+    // one before the book's time comes after no tick: it is met as soon as the record before it is
+    for option in ["--at", "--total"] {
+        for tick in ["20", "25", "2147483647"] {
+            let ran = kerb_fed(&["groups", option, tick], &file);
+            let words = "refused 4 at record 2: ";
+            assert!(ran.status == 2 && ran.err.starts_with(words), "{ran:?}");
+        }
+    }
 }
 
 /// A mirrored unit, a link in the other direction, and a newer detour: the newest slide of each link of the chain.
@@ -135,39 +146,24 @@ fn why_finds_the_newest_slide_of_each_link() {
     let ran = kerb_fed(&["why", "63", "61", "--json"], &recording(settings, &links));
     assert_eq!(
         ran.out,
-        "{\"joined\":true,\"one\":63,\"other\":61,\"tick\":1020,\"slide\":2,\
+        "{\"joined\":true,\"one\":63,\"other\":61,\"tick\":1020,\"total\":20,\"slide\":2,\
          \"chain\":[{\"cell\":63,\"ring\":0,\"sector\":63},{\"cell\":62,\"ring\":0,\"sector\":62},{\"cell\":61,\"ring\":0,\"sector\":61}],\
-         \"links\":[{\"one\":63,\"other\":62,\"tick\":1000,\"slide\":0},{\"one\":62,\"other\":61,\"tick\":1019,\"slide\":1}],\
-         \"newest\":{\"slide\":0,\"first\":1000,\"last\":1009},\"hold\":1,\"until\":1039}\n"
+         \"links\":[{\"one\":63,\"other\":62,\"tick\":1000,\"total\":0,\"slide\":0},\
+         {\"one\":62,\"other\":61,\"tick\":1019,\"total\":19,\"slide\":1}],\
+         \"newest\":{\"slide\":0,\"first\":1000,\"last\":1009,\"first_total\":0,\"last_total\":9},\
+         \"hold\":1,\"until\":1039,\"until_total\":39}\n"
     );
 }
 
-/// Ticks end before the two part.
 #[test]
-fn there_may_be_no_tick_at_which_two_part() {
-    let settings = Settings {
-        t0: 0,
-        b: u32::MAX,
-        n: 3,
-        mounting: Mounting::Plain,
-    };
-    let file = recording(settings, &[(5, 1, 2)]);
-    let ran = kerb_fed(&["why", "1", "2"], &file);
-    let last =
-        "Hold 2: if nothing more is seen, they stay joined for as long as there are ticks.\n";
-    assert!(ran.out.ends_with(last), "{}", ran.out);
-    let ran = kerb_fed(&["why", "1", "2", "--json"], &file);
-    assert!(
-        ran.out.ends_with("\"hold\":2,\"until\":null}\n"),
-        "{}",
-        ran.out
-    );
-    // nor is there one for a cell and itself
+fn a_cell_and_itself_never_part() {
     let ran = kerb(&["why", LIFT, "7", "7", "--json"]);
-    assert!(
-        ran.out.ends_with("\"hold\":5,\"until\":null}\n"),
-        "{}",
-        ran.out
+    assert_eq!(
+        ran.out,
+        "{\"joined\":true,\"one\":7,\"other\":7,\"tick\":450,\"total\":450,\"slide\":4,\
+         \"chain\":[{\"cell\":7,\"ring\":0,\"sector\":7}],\"links\":[],\
+         \"newest\":{\"slide\":5,\"first\":500,\"last\":599,\"first_total\":500,\"last_total\":599},\
+         \"hold\":5,\"until\":null,\"until_total\":null}\n"
     );
 }
 
@@ -184,7 +180,8 @@ fn groups_tells_all_cells() {
     let ran = kerb(&["groups", LIFT, "--json"]);
     assert_eq!(
         ran.out,
-        "{\"tick\":450,\"slide\":4,\"groups\":[{\"cells\":[94,95,96,161,162,227],\"hold\":0,\"until\":499}],\"links\":21}\n"
+        "{\"tick\":450,\"total\":450,\"slide\":4,\
+         \"groups\":[{\"cells\":[94,95,96,161,162,227],\"hold\":0,\"until\":499,\"until_total\":499}],\"links\":21}\n"
     );
     let ran = kerb(&["list", LATER, "--json"]);
     assert_eq!(

@@ -24,6 +24,8 @@ fn wrong_use_is_status_3() {
             "there is no option --json=yes",
         ),
         (&["list", LIFT, "--at", "5"], "list takes no --at"),
+        (&["list", LIFT, "--total", "5"], "list takes no --total"),
+        (&["cell", "5", "--total=5"], "cell takes no --total"),
         (
             &["groups", LIFT, "--mounting", "1"],
             "groups takes no --mounting",
@@ -37,6 +39,15 @@ fn wrong_use_is_status_3() {
         (
             &["groups", LIFT, "--at", "5", "--at=6"],
             "--at stands twice",
+        ),
+        (&["groups", LIFT, "--total"], "--total wants a value"),
+        (
+            &["groups", LIFT, "--total", "5", "--total=5"],
+            "--total stands twice",
+        ),
+        (
+            &["why", LIFT, "1", "2", "--total", "5", "--at", "5"],
+            "--at and --total name a moment each: one of them is enough",
         ),
         (&["why", LIFT], "why wants two cells"),
         (&["cell"], "cell wants one number"),
@@ -75,6 +86,11 @@ fn words_for_numbers_are_status_3() {
             "is not a number: a tick is wanted here",
         );
         complains(
+            &kerb(&["groups", LIFT, "--total", word]),
+            3,
+            "is not a number: a total is wanted here",
+        );
+        complains(
             &kerb(&["cell", "5", "--mounting", word]),
             3,
             "is not a number: a mounting is wanted here",
@@ -103,13 +119,40 @@ fn numbers_out_of_range_are_refused() {
             "ticks go from 0 to 4294967295",
         );
     }
-    // a tick before the first one
-    let words = "refused 4 at tick 999: the tick is before the book's time";
-    complains(
-        &kerb(&["groups", "samples/mirrored.kerb", "--at", "999"]),
-        2,
-        words,
-    );
+    for total in ["9223372036854775808", "99999999999999999999999"] {
+        complains(
+            &kerb(&["groups", LIFT, "--total", total]),
+            3,
+            "is no total: totals go from 0 to 9223372036854775807",
+        );
+    }
+    // a total that would take more clock calls than anybody waits for
+    for total in ["214748364700001", "9223372036854775807"] {
+        let words = format!(
+            "{total} is too far ahead: a clock call reaches 2147483647 ticks, and kerb makes 100000 of them at most, \
+             up to the total 214748364700000\n"
+        );
+        complains(&kerb(&["groups", LIFT, "--total", total]), 3, &words);
+    }
+    let furthest = kerb(&["groups", LIFT, "--total", "214748364700000"]);
+    let start =
+        "0 groups at tick 4294867296, total 214748364700000, in slide 2147483647000; 0 links ";
+    assert!(furthest.out.starts_with(start), "{furthest:?}");
+    // a tick before the first one, and one that is further ahead of the last record, at 1130, than a call reaches
+    for tick in ["999", "2147484778"] {
+        let args = ["groups", "samples/mirrored.kerb", "--at", tick];
+        let words = format!(
+            "refused 4 at tick {tick}: the tick is before the book's time, or 2,147,483,648 or more after it, \
+             which looks the same; or the total has run out\n"
+        );
+        complains(&kerb(&args), 2, &words);
+        let ran = kerb(&[&args[..], &["--json"]].concat());
+        assert_eq!(ran.status, 2);
+        let start = format!("{{\"refused\":4,\"tick\":{tick},\"meaning\":\"the tick is before ");
+        assert!(ran.out.starts_with(&start), "{}", ran.out);
+    }
+    let reached = kerb(&["groups", "samples/mirrored.kerb", "--at", "2147484777"]);
+    assert_eq!(reached.status, 0, "{}", reached.err);
 }
 
 #[test]
@@ -207,7 +250,7 @@ fn refused_files_are_status_2_with_the_number_in_words() {
         (
             changed(8, 9),
             "refused 4 1",
-            "refused 4 at record 1: the tick is before the book's time",
+            "refused 4 at record 1: the tick is before the book's time, or 2,147,483,648 or more after it",
         ),
         (
             recording(settings, &full),

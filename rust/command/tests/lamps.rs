@@ -75,7 +75,7 @@ fn at_a_tick_the_lamps_are_what_they_were_then() {
         ("50", "  3 cells tied to bodywork: 161 162 227\n"),
         ("499", "  3 cells tied to bodywork: 161 162 227\n"),
         ("500", LEFT_LIT),
-        ("4294967295", unlinked),
+        ("2147483647", unlinked),
     ] {
         for file in [LIFT, LATER] {
             let text = said(kerb(&["lamps", file, "--body", BODY, "--at", tick]));
@@ -89,26 +89,29 @@ fn at_a_tick_the_lamps_are_what_they_were_then() {
 fn both_lamps_as_json() {
     assert_eq!(
         said(kerb(&["lamps", LIFT, "--body", BODY, "--json"])),
-        "{\"tick\":450,\"slide\":4,\"body\":[94,95,96],\
+        "{\"tick\":450,\"total\":450,\"slide\":4,\"body\":[94,95,96],\
          \"left\":{\"lit\":false,\"reason\":\"tied\",\"bodywork\":[],\"tied\":[161,162,227],\
          \"chain\":[{\"cell\":161,\"ring\":2,\"sector\":33},{\"cell\":96,\"ring\":1,\"sector\":32}],\
-         \"links\":[{\"one\":161,\"other\":96,\"tick\":20,\"slide\":0}],\
-         \"newest\":{\"slide\":0,\"first\":0,\"last\":99},\"hold\":0,\"until\":499,\
-         \"lights\":{\"tick\":500,\"slide\":5,\"cell\":161,\"ring\":2,\"sector\":33}},\
+         \"links\":[{\"one\":161,\"other\":96,\"tick\":20,\"total\":20,\"slide\":0}],\
+         \"newest\":{\"slide\":0,\"first\":0,\"last\":99,\"first_total\":0,\"last_total\":99},\
+         \"hold\":0,\"until\":499,\"until_total\":499,\
+         \"lights\":{\"tick\":500,\"total\":500,\"slide\":5,\"cell\":161,\"ring\":2,\"sector\":33}},\
          \"right\":{\"lit\":false,\"reason\":\"bodywork\",\"bodywork\":[94,95]}}\n"
     );
     assert_eq!(
         said(kerb(&["lamps", LATER, "--body", "96", "--json"])),
-        "{\"tick\":650,\"slide\":6,\"body\":[96],\"left\":{\"lit\":true,\"cell\":161,\"ring\":2,\"sector\":33},\
+        "{\"tick\":650,\"total\":650,\"slide\":6,\"body\":[96],\"left\":{\"lit\":true,\"cell\":161,\"ring\":2,\"sector\":33},\
          \"right\":{\"lit\":false,\"reason\":\"tied\",\"bodywork\":[],\"tied\":[94,95],\
          \"chain\":[{\"cell\":94,\"ring\":1,\"sector\":30},{\"cell\":95,\"ring\":1,\"sector\":31},\
          {\"cell\":96,\"ring\":1,\"sector\":32}],\
-         \"links\":[{\"one\":94,\"other\":95,\"tick\":600,\"slide\":6},{\"one\":95,\"other\":96,\"tick\":600,\"slide\":6}],\
-         \"newest\":{\"slide\":6,\"first\":600,\"last\":699},\"hold\":4,\"until\":1099,\"lights\":null}}\n"
+         \"links\":[{\"one\":94,\"other\":95,\"tick\":600,\"total\":600,\"slide\":6},\
+         {\"one\":95,\"other\":96,\"tick\":600,\"total\":600,\"slide\":6}],\
+         \"newest\":{\"slide\":6,\"first\":600,\"last\":699,\"first_total\":600,\"last_total\":699},\
+         \"hold\":4,\"until\":1099,\"until_total\":1099,\"lights\":null}}\n"
     );
     assert_eq!(
         said(kerb_fed(&["lamps", "--body=none", "--json"], &recording(settings(3), &[]))),
-        "{\"tick\":0,\"slide\":0,\"body\":[],\"left\":{\"lit\":false,\"reason\":\"unlinked\",\"bodywork\":[]},\
+        "{\"tick\":0,\"total\":0,\"slide\":0,\"body\":[],\"left\":{\"lit\":false,\"reason\":\"unlinked\",\"bodywork\":[]},\
          \"right\":{\"lit\":false,\"reason\":\"unlinked\",\"bodywork\":[]}}\n"
     );
 }
@@ -172,23 +175,16 @@ fn the_lamp_comes_on_for_the_first_cell_that_parts() {
     assert!(text.contains("The right lamp is lit, by cell 19"), "{text}");
 }
 
-/// The cells leave the window with what ties them; or they would part, but ticks end before.
+/// The cells leave the window with what ties them.
 #[test]
 fn a_lamp_may_stay_dark() {
-    let one_slide = recording(settings(4), &[(0, 5, 6), (9, 4, 5)]);
-    let late = Settings {
-        b: 1 << 31,
-        ..settings(2)
-    };
-    let ticks_end = recording(late, &[(0, 5, 6), (1 << 31, 4, 5)]);
-    for file in [one_slide, ticks_end] {
-        let text = said(kerb_fed(&["lamps", "--body", "6"], &file));
-        assert!(text.contains("2 cells tied to bodywork: 4 5\n"), "{text}");
-        assert!(
-            text.ends_with("\nIf nothing more is seen, the lamp stays dark.\n"),
-            "{text}"
-        );
-    }
+    let file = recording(settings(4), &[(0, 5, 6), (9, 4, 5)]);
+    let text = said(kerb_fed(&["lamps", "--body", "6"], &file));
+    assert!(text.contains("2 cells tied to bodywork: 4 5\n"), "{text}");
+    assert!(
+        text.ends_with("\nIf nothing more is seen, the lamp stays dark.\n"),
+        "{text}"
+    );
 }
 
 #[test]
@@ -304,6 +300,14 @@ fn wrong_use_is_status_3() {
         (
             &["lamps", LIFT, "--body", "5", "--at", "x"],
             "x is not a number: a tick",
+        ),
+        (
+            &["lamps", LIFT, "--body", "5", "--total", "x"],
+            "x is not a number: a total",
+        ),
+        (
+            &["lamps", LIFT, "--body", "5", "--total=1", "--at=1"],
+            "--at and --total name a moment each",
         ),
         (
             &["lamps", LIFT, "--body", "5", "--n", "3"],

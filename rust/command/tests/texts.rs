@@ -55,7 +55,7 @@ fn each_sample_text_is_that_of_its_file() {
         assert_eq!(file_of(&list, &put_out.err), bytes, "{}", path.display());
         pairs += 1;
     }
-    assert_eq!(pairs, 2);
+    assert_eq!(pairs, 3);
 }
 
 /// Every sample, and drawn files: the same bytes again, with the settings as they were printed.
@@ -194,6 +194,7 @@ fn wrong_use_is_status_3() {
     for (more, words) in [
         (&["--json"][..], "to-file takes no --json"),
         (&["--at", "5"], "to-file takes no --at"),
+        (&["--total", "5"], "to-file takes no --total"),
         (&["--n", "3"], "--n stands twice"),
         (&["-o"], "-o wants a value"),
         (&["-o", "x", "-o", "y"], "-o stands twice"),

@@ -52,15 +52,15 @@ mod tests {
     #[test]
     fn p12_needs_three_crossings() {
         let links = [(1, 10, 11), (1, 12, 13), (2, 11, 12), (2, 13, 14)];
+        let settings = Settings {
+            n: 2,
+            b: 1,
+            mounting: 1,
+            t0: 0,
+        };
         let history = History {
-            settings: Settings {
-                n: 2,
-                b: 1,
-                mounting: 1,
-                t0: 0,
-            },
-            time: 2,
             links: links.map(|(slide, a, b)| Link { slide, a, b }).to_vec(),
+            ..History::at_total(settings, 2)
         };
         let to = |cell| crossings(&history, 10, cell);
         assert_eq!([11, 12, 13, 14].map(to), [0, 1, 2, 3]);

@@ -1,6 +1,7 @@
 //! A difference between what a call gave and what it has to give, in words that
 //! an engineer can start from.
 
+use crate::library::Told;
 use crate::state::State;
 use std::fmt;
 use streams::{lent_bytes, lent_places, Answer, Call};
@@ -48,21 +49,32 @@ impl Difference {
         }
         unreachable!("the parts are all that a state has")
     }
+
+    /// What the book's clock says after a call, where the two differ.
+    pub fn of_clocks(call: &Call, expected: Told, given: Told) -> Result<(), Difference> {
+        if expected == given {
+            return Ok(());
+        }
+        Err(Difference(format!(
+            "{}\n  has to leave {expected:?}\n  and left     {given:?}",
+            shown_call(call),
+        )))
+    }
 }
 
 /// All numbers of a state, field by field.
-fn parts(state: &State) -> Vec<(&'static str, Vec<u32>)> {
+fn parts(state: &State) -> Vec<(&'static str, Vec<u64>)> {
     let book = &state.book;
-    let wide = |numbers: &[u16]| numbers.iter().map(|&number| u32::from(number)).collect();
-    let bytes = |numbers: &[u8]| numbers.iter().map(|&number| u32::from(number)).collect();
+    let wide = |numbers: &[u16]| numbers.iter().map(|&number| u64::from(number)).collect();
+    let bytes = |numbers: &[u8]| numbers.iter().map(|&number| u64::from(number)).collect();
     let clock = &book.clock;
     vec![
         (
-            "clock (t0, b, time, n)",
-            vec![clock.t0, clock.b, clock.time, u32::from(clock.n)],
+            "clock (total, t0, b, n)",
+            vec![clock.total, clock.t0.into(), clock.b.into(), clock.n.into()],
         ),
         ("clock.pad", bytes(&clock.pad)),
-        ("fitting.mounting", vec![u32::from(book.fitting.mounting)]),
+        ("fitting.mounting", vec![book.fitting.mounting.into()]),
         ("fitting.pad", bytes(&book.fitting.pad)),
         ("counts", wide(&book.counts)),
         ("forward_parent", wide(&book.forward_parent)),

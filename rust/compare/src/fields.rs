@@ -26,16 +26,16 @@ pub fn never_opened() -> RawBook {
         backward_size: [0; 1024],
         counts: [0; 2 * HALF],
         clock: Clock {
+            total: 0,
             t0: 0,
             b: 0,
-            time: 0,
             n: 0,
-            pad: [0; 3],
+            pad: [0; 7],
         },
         backward_label: [0; 1024],
         fitting: Fitting {
             mounting: 0,
-            pad: [0; 3],
+            pad: [0; 7],
         },
     }
 }
@@ -51,16 +51,16 @@ pub fn book_of(history: &History) -> RawBook {
         backward_size: narrow(&backward.size),
         counts: counts_of(history),
         clock: Clock {
+            total: u64::try_from(history.total).expect("a total that has not run out"),
             t0: history.settings.t0,
             b: history.settings.b,
-            time: history.time,
             n: history.settings.n as u8,
-            pad: [0; 3],
+            pad: [0; 7],
         },
         backward_label: labels_of(&backward),
         fitting: Fitting {
             mounting: history.settings.mounting as u8,
-            pad: [0; 3],
+            pad: [0; 7],
         },
     }
 }

@@ -8,9 +8,9 @@
 //! - [`altered`] does it for books that calls did not leave, with docs/BOOK.md
 //!   in the oracle's place;
 //! - [`seen`] says which classes a call falls in, by the oracle's data alone, the
-//!   crossings that were needed, the ties and what lit the lamps among them,
-//!   [`texts`] those of the calls with texts; [`Tally`] counts them and knows which
-//!   stayed empty;
+//!   crossings that were needed, the ties, what lit the lamps and where the counter
+//!   passed its end among them, [`texts`] those of the calls with texts; [`Tally`]
+//!   counts them and knows which stayed empty;
 //! - [`run`] has what the runs share: the seed, the cores, the verdict.
 
 #![forbid(unsafe_code)]
@@ -27,6 +27,7 @@ pub mod seen;
 mod state;
 mod tally;
 pub mod texts;
+mod ticks;
 mod ties;
 
 pub use difference::Difference;

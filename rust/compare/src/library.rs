@@ -2,7 +2,7 @@
 //! that they can be compared with the oracle's by `==`.
 
 use crate::state::State;
-use kerb::calls;
+use kerb::{calls, RawBook};
 use oracle::Settings;
 use streams::{lent_bytes, lent_places, Answer, Call};
 
@@ -51,6 +51,22 @@ pub fn ask(state: &mut State, call: &Call) -> Answer {
             output_bytes,
         } => ask_text_in(*settings, text, *output_bytes),
         Call::TextOut { file, output_bytes } => ask_text_out(file, *output_bytes),
+    }
+}
+
+/// What a book's clock tells: the time and the open slide. Both are 0 for a book that
+/// was never opened.
+#[derive(Clone, Copy, Debug, Default, PartialEq, Eq)]
+pub struct Told {
+    pub time: u32,
+    pub open_slide: u64,
+}
+
+/// Asks the library for the time and the open slide.
+pub fn told(book: &RawBook) -> Told {
+    Told {
+        time: calls::time(book),
+        open_slide: calls::open_slide(book),
     }
 }
 

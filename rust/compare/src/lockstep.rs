@@ -2,7 +2,7 @@
 
 use crate::difference::Difference;
 use crate::fields::{book_of, log_place, never_opened, spot};
-use crate::library;
+use crate::library::{self, told, Told};
 use crate::state::State;
 use oracle::{Book, History, LOG_PLACES};
 use streams::{ask, Answer, Call};
@@ -47,7 +47,8 @@ impl Lockstep {
     /// Puts a call to both. The whole answers have to be equal, the lent buffers
     /// too. Of the state, a refusal and a question change nothing; a call that is
     /// done leaves the book that [`book_of`] builds, and in the log writes a link
-    /// to its two places, an opening zeros to the first 16,384, and nothing else.
+    /// to its two places, an opening zeros to the first 16,384, and nothing else. Then
+    /// the time and the open slide are asked for.
     pub fn put(&mut self, call: &Call) -> Result<Answer, Difference> {
         self.calls += 1;
         let answer = ask(&mut self.oracle, call);
@@ -57,6 +58,8 @@ impl Lockstep {
             self.follow(call, number == 0);
         }
         Difference::of_states(call, &self.expected, &self.library)?;
+        let expected = self.oracle.history.as_ref().map(told_by);
+        Difference::of_clocks(call, expected.unwrap_or_default(), told(&self.library.book))?;
         Ok(answer)
     }
 
@@ -86,6 +89,14 @@ impl Lockstep {
 impl Default for Lockstep {
     fn default() -> Lockstep {
         Lockstep::new()
+    }
+}
+
+/// What the oracle tells of its clock.
+fn told_by(history: &History) -> Told {
+    Told {
+        time: history.time,
+        open_slide: history.open_slide(),
     }
 }
 
@@ -191,6 +202,22 @@ mod tests {
         books.library.book.fitting.pad[0] = 1;
         let text = difference(&mut books, &LINK);
         assert!(text.contains("fitting.pad[0] 0"), "{text}");
+    }
+
+    /// A turn of the counter, which the time does not show, and a tick, which the open
+    /// slide does not. After a question both books are taken for what they should be.
+    #[test]
+    fn another_total_is_noticed() {
+        for (ticks, told) in [(1 << 32, "open_slide: 429496730"), (1, "time: 8")] {
+            let mut books = opened();
+            books.put(&LINK).unwrap();
+            books.library.book.clock.total += ticks;
+            let text = difference(&mut books, &JOINED);
+            assert!(text.contains("clock (total, t0, b, n)[0] 7"), "{text}");
+            books.expected = books.library.clone();
+            let text = difference(&mut books, &JOINED);
+            assert!(text.contains(told), "{text}");
+        }
     }
 
     #[test]

@@ -4,9 +4,9 @@
 use crate::crossings::crossings;
 use crate::lamps;
 use crate::tally::{names, number, span, Spans, Tally, NUMBERS};
+use crate::ticks;
 use crate::ties::has_ties;
 use oracle::{History, Link, Refusal, Settings, MIRRORED, RINGS, SECTORS};
-use streams::hops::is_hop;
 use streams::{Answer, Call};
 
 const B: &Spans = &[
@@ -85,7 +85,6 @@ pub fn tally() -> Tally {
             &["not", "within a slide", "to the next slide", "over slides"],
         ),
         ("chunk", &["the same", "the next", "chunks jumped over"]),
-        ("ticks moved", &HOPS),
         ("link taken", &["new", "repeat"]),
         ("its cells", &TOUCHING),
         ("cells of number 14", &APART),
@@ -103,14 +102,15 @@ pub fn tally() -> Tally {
         ("hold of a cell with itself", &NUMBERS[1..]),
         ("links of a chain", &links_of_chain),
         ("shortest chains", &["one", "ties"]),
-        ("L", &["up to 32 bits", "2^32"]),
     ];
+    let of_ticks = ticks::rows();
+    rows.extend(of_ticks.iter().map(|(name, classes)| (*name, &classes[..])));
     rows.extend(lamps::ROWS);
     Tally::of(&rows)
 }
 
 /// The streams there are.
-pub const STREAMS: [&str; 14] = [
+pub const STREAMS: [&str; 15] = [
     "few cells",
     "all cells",
     "touching cells",
@@ -119,7 +119,8 @@ pub const STREAMS: [&str; 14] = [
     "long chain",
     "grid",
     "full log",
-    "last ticks",
+    "over the end",
+    "longest hops",
     "far links",
     "self links",
     "huge jumps",
@@ -176,14 +177,6 @@ fn apart(a: u32, b: u32) -> &'static str {
     }
 }
 
-/// How far the time can move at a time.
-pub(crate) const HOPS: [&str; 2] = ["a hop", "2^31 and more"];
-
-/// The class of a move of the time.
-pub(crate) fn hop(before: u32, after: u32) -> &'static str {
-    HOPS[usize::from(!is_hop(before, after))]
-}
-
 /// Where the time stood.
 #[derive(Clone, Copy, Debug)]
 pub struct Moment {
@@ -211,10 +204,15 @@ pub fn count(
     tally.count(number_row(call), number(answer.number()));
     count_apart(tally, call, answer);
     lamps::count_refused(tally, call, answer);
+    ticks::count_refused(tally, before.map(|of| of.time), call, answer);
+    ticks::count_listing(tally, answer);
     let history = match history {
         Some(history) if answer.number() == 0 => history,
         _ => return,
     };
+    if call.is_question() {
+        ticks::count_window(tally, history);
+    }
     match (call, answer) {
         (Call::Opening { settings, .. }, _) => count_opening(tally, settings),
         (Call::Link { .. }, _) => {
@@ -235,8 +233,7 @@ pub fn count(
                 ..
             },
         ) => {
-            let past = *l > u64::from(u32::MAX);
-            tally.count("L", if past { "2^32" } else { "up to 32 bits" });
+            ticks::count_l(tally, *l);
             if first == second {
                 tally.count("hold of a cell with itself", number(*hold));
             } else {
@@ -298,7 +295,7 @@ fn count_time(tally: &mut Tally, before: Option<Moment>, history: &History) {
         _ => "chunks jumped over",
     };
     tally.count("chunk", chunk);
-    tally.count("ticks moved", hop(before.time, history.time));
+    ticks::count_taken(tally, before.time, history);
 }
 
 fn count_link(tally: &mut Tally, history: &History) {
@@ -310,6 +307,7 @@ fn count_link(tally: &mut Tally, history: &History) {
     let repeat = others.iter().any(|other| pair(other) == pair(link));
     tally.count("link taken", if repeat { "repeat" } else { "new" });
     tally.count("its cells", touching(link.a, link.b));
+    ticks::count_link(tally, history);
     if history.settings.mounting == MIRRORED {
         for end in [link.a, link.b] {
             let place = match end % SECTORS {
@@ -355,4 +353,5 @@ fn count_chain(tally: &mut Tally, history: &History, l: u64, chain: &[u16]) {
     tally.count("links of a chain", span(LINKS_OF_CHAIN, links));
     let ties = has_ties(history, l, chain);
     tally.count("shortest chains", if ties { "ties" } else { "one" });
+    ticks::count_chain(tally, history, l);
 }

@@ -24,15 +24,15 @@ mod tests {
 
     /// Slide 2 is open, and slide 1 in the window.
     fn history(links: [(u64, u32, u32); 4]) -> History {
+        let settings = Settings {
+            n: 2,
+            b: 1,
+            mounting: 1,
+            t0: 0,
+        };
         History {
-            settings: Settings {
-                n: 2,
-                b: 1,
-                mounting: 1,
-                t0: 0,
-            },
-            time: 2,
             links: links.map(|(slide, a, b)| Link { slide, a, b }).to_vec(),
+            ..History::at_total(settings, 2)
         }
     }
 

@@ -1,15 +1,16 @@
-//! The calls beside those of the streams, compared with the oracle: groups, playing, the open slide and the ticks of slides, cells
-//! and records. Groups and playing for altered books too, with docs/BOOK.md in the oracle's place.
+//! The calls beside those of the streams, compared with the oracle: groups, playing, the time, the open slide and the ticks of slides,
+//! cells and records. All but the last two for altered books too, with docs/BOOK.md in the oracle's place.
 
 mod common;
 
 use common::{opened, settings};
 use compare::altered::order::disorder;
 use compare::altered::{books, calls as altered_calls, said};
-use compare::{run, Difference, Lockstep, State};
-use kerb::calls;
-use oracle::{History, Record, Refusal, CELLS, LOG_PLACES};
+use compare::{library, run, Difference, Lockstep, State};
+use kerb::calls::{self, Clock};
+use oracle::{tick_after, History, Record, Refusal, CELLS, LOG_PLACES, MOST_TOTAL};
 use streams::files::{edge_files, every_field, file_of, valid_file, Files};
+use streams::hops::distance;
 use streams::{built, draw_settings, lent_bytes, lent_places, Call, Dice, Kind, Random};
 
 const ALL: usize = CELLS as usize;
@@ -44,7 +45,7 @@ fn rings_and_sectors_of_every_number() {
 
 #[test]
 fn version_and_size() {
-    assert_eq!(calls::version(), 2);
+    assert_eq!(calls::version(), 3);
     assert_eq!(calls::book_size(), kerb::RawBook::BYTES);
     assert_eq!(calls::book_size(), std::mem::size_of::<kerb::RawBook>());
 }
@@ -174,36 +175,50 @@ fn compare_questions(dice: &mut Dice, state: &State, history: Option<&History>) 
     let (log_places, places) = draw_places(dice);
     let told = ask_groups(state, log_places, places);
     assert_eq!(told, groups_of(history, log_places, places));
-    let history = match history {
-        None => return told.number,
-        Some(history) => history,
-    };
-    let open = history.open_slide();
-    assert_eq!(calls::open_slide(&state.book), open);
-    let last = history.settings.slide_of(u32::MAX);
-    for slide in [0, open, open + 1, last, last + 1, 1 << 32, u64::MAX] {
-        let given = calls::slide_ticks(&state.book, slide);
-        let given = (given.exists, given.first, given.last);
-        assert_eq!(given, ticks_of(history, slide), "slide {slide}");
+    compare_clock(dice, &state.book);
+    if let Some(history) = history {
+        let told = library::told(&state.book);
+        assert_eq!(
+            (told.time, told.open_slide),
+            (history.time, history.open_slide())
+        );
+        let open = calls::slide_ticks(&state.book, told.open_slide);
+        assert!(open.exists);
+        let totals = u128::from(open.first_total)..=u128::from(open.last_total);
+        assert!(totals.contains(&history.total));
     }
     told.number
 }
 
-/// Whether a slide exists, its first tick and its last.
-fn ticks_of(history: &History, slide: u64) -> (bool, u32, u32) {
-    let (t0, b) = (
-        u128::from(history.settings.t0),
-        u128::from(history.settings.b),
-    );
-    let first = t0 + u128::from(slide) * b;
-    let narrow = |tick: u128| u32::try_from(tick).unwrap_or(u32::MAX);
-    if first > u128::from(u32::MAX) {
-        return (false, 0, 0);
+/// The time, the open slide and the ticks of slides, of a book in order or not.
+fn compare_clock(dice: &mut Dice, book: &kerb::RawBook) {
+    assert_eq!(library::told(book), said::told(book));
+    let open = calls::open_slide(book);
+    let last = (MOST_TOTAL as u64).checked_div(book.clock.b.into());
+    let last = last.unwrap_or(0);
+    let any = dice.bits() >> dice.below(64);
+    for slide in [0, 1, open, last, 1 << 32, 1 << 63, any, u64::MAX] {
+        for slide in [slide.saturating_sub(1), slide, slide.saturating_add(1)] {
+            let ticks = calls::slide_ticks(book, slide);
+            assert_eq!(ticks, said::slide_ticks(&book.clock, slide), "{slide}");
+            assert_eq!(ticks.exists, book.clock.b != 0 && slide <= last);
+            if ticks.exists {
+                look_at_ticks(&book.clock, slide, ticks);
+            }
+        }
     }
-    let (first, last) = (narrow(first), narrow(first + b - 1));
-    assert_eq!(history.settings.slide_of(first), slide);
-    assert_eq!(history.settings.slide_of(last), slide);
-    (true, first, last)
+}
+
+/// The totals are those of the slide, all of them, and the ticks are those of the totals.
+fn look_at_ticks(clock: &Clock, slide: u64, ticks: calls::SlideAnswer) {
+    let settings = settings(1, clock.b, 1, clock.t0);
+    let [first, last] = [ticks.first_total, ticks.last_total].map(u128::from);
+    assert_eq!(settings.slide_of(first), slide);
+    assert_eq!(settings.slide_of(last), slide);
+    assert!(first == 0 || settings.slide_of(first - 1) == slide - 1);
+    assert!(last == MOST_TOTAL || settings.slide_of(last + 1) == slide + 1);
+    assert_eq!(ticks.first, tick_after(clock.t0, first));
+    assert_eq!(ticks.last, tick_after(clock.t0, last));
 }
 
 #[test]
@@ -286,18 +301,36 @@ fn groups_and_slides_of_altered_books() {
     );
 }
 
-/// RULES 2.15: x div 0 is 0, and x - y is 0 where y is the larger.
+/// RULES 2.15: the questions about the clock answer for every clock. All numbers at the ends of their widths, and any.
 #[test]
-fn the_open_slide_of_any_clock() {
+fn the_clock_of_any_numbers() {
     let mut dice = Dice::new(run::seed());
-    let left = books::left_by_calls(dice.bits());
-    for _ in 0..2_000 {
-        let book = books::draw(&mut dice, &left).state.book;
-        let since = book.clock.time.saturating_sub(book.clock.t0);
-        let expected = since.checked_div(book.clock.b).unwrap_or(0);
-        assert_eq!(calls::open_slide(&book), u64::from(expected));
+    let mut totals = vec![0, 1, u64::MAX - 1, u64::MAX];
+    for power in [31, 32, 63] {
+        totals.extend([(1 << power) - 1, 1 << power, (1 << power) + 1]);
     }
-    assert_eq!(calls::open_slide(&kerb::RawBook::never_opened()), 0);
+    totals.extend((0..50).map(|_| dice.bits()));
+    let mut book = kerb::RawBook::never_opened();
+    for total in totals {
+        for t0 in [0, 1, 1 << 31, u32::MAX - 1, u32::MAX, dice.bits() as u32] {
+            for b in [0, 1, 2, 1_000, 1 << 31, u32::MAX - 1, u32::MAX] {
+                book.clock.total = total;
+                book.clock.t0 = t0;
+                book.clock.b = b;
+                compare_clock(&mut dice, &book);
+            }
+        }
+    }
+}
+
+/// The time of a book that was never opened is 0, and so is its open slide; it has no slides.
+#[test]
+fn the_clock_of_a_book_that_was_never_opened() {
+    let book = kerb::RawBook::never_opened();
+    assert_eq!((book.time(), book.total(), book.open_slide()), (0, 0, 0));
+    for slide in [0, 1, u64::MAX] {
+        assert_eq!(book.slide_ticks(slide), None);
+    }
 }
 
 // Playing.
@@ -445,7 +478,8 @@ fn playing_into_altered_books() {
                 records.push(Record { tick, a, b });
             }
         }
-        records.sort_by_key(|record| record.tick);
+        let time = said::time(&state.book.clock);
+        records.sort_by_key(|record| distance(time, record.tick));
         let file = file_of(draw_settings(&mut dice), &records);
         let mut given = state.clone();
         let answer = ask_play(&mut given, LOG_PLACES, &file);

@@ -1,8 +1,9 @@
 //! Altered books: whatever a call is given, it gives what docs/BOOK.md says. Most
 //! of the books are in range, so that calls get past number 1; the rest have a
 //! field outside its range, or any bytes. Several calls one after the other are
-//! put to each book. Prints the seed and how often each class was seen; fails on
-//! a difference, and where a class stayed empty.
+//! put to each book, and after each the time and the open slide are asked for.
+//! Prints the seed and how often each class was seen; fails on a difference, and
+//! where a class stayed empty.
 
 use compare::altered::{books, calls, said, seen};
 use compare::{library, run, Difference, State, Tally};
@@ -52,8 +53,10 @@ fn compare(lot: u64, left: &[State]) -> Result<Tally, String> {
             let given_answer = library::ask(&mut given, &call);
             let before = state.clone();
             let answer = said::ask(&mut state, &call);
+            let (told, given_told) = (said::told(&state.book), library::told(&given.book));
             Difference::of_answers(&call, &answer, &given_answer)
                 .and_then(|()| Difference::of_states(&call, &state, &given))
+                .and_then(|()| Difference::of_clocks(&call, told, given_told))
                 .map_err(|difference| {
                     format!(
                         "lot {lot}, book {place} ({}), call {asked}: {difference}",

@@ -50,36 +50,52 @@ fn opening_2_6() {
     }
 }
 
+/// Half a turn of the counter after tick 50.
+const HALF_A_TURN_ON: u32 = 50 + (1 << 31);
+
+/// Number 4 by a tick that lies back, in the full slide or before it, and by one that
+/// lies half a turn ahead.
 #[test]
 fn link_1_6_3_14_4_5() {
     for faults in all_sets() {
-        let [never_opened, short, bad_cell, apart, old_tick, full] = faults;
-        let call = Call::Link {
-            tick: match (old_tick, full) {
-                (false, false) => 55,
-                (false, true) => 54,
-                (true, false) => 44,
-                (true, true) => 49,
-            },
-            a: if apart { 63 } else { 1022 },
-            b: if bad_cell { 1024 } else { 1023 },
-            log_places: log_places(short),
+        let [never_opened, short, bad_cell, apart, early, full] = faults;
+        let ticks = match (early, full) {
+            (false, false) => vec![55],
+            (false, true) => vec![54],
+            (true, false) => vec![44, HALF_A_TURN_ON],
+            (true, true) => vec![49],
         };
-        let given = number(&mut book(never_opened), call);
-        assert_eq!(given, first([1, 6, 3, 14, 4, 5], faults));
+        for tick in ticks {
+            let call = Call::Link {
+                tick,
+                a: if apart { 63 } else { 1022 },
+                b: if bad_cell { 1024 } else { 1023 },
+                log_places: log_places(short),
+            };
+            let given = number(&mut book(never_opened), call);
+            assert_eq!(given, first([1, 6, 3, 14, 4, 5], faults));
+        }
     }
 }
 
+/// Number 4 by a tick that lies back and by one that lies half a turn ahead.
 #[test]
 fn clock_1_6_4() {
     for faults in all_sets() {
-        let [never_opened, short, old_tick] = faults;
-        let call = Call::Clock {
-            tick: if old_tick { 49 } else { 50 },
-            log_places: log_places(short),
+        let [never_opened, short, early] = faults;
+        let ticks = if early {
+            vec![49, HALF_A_TURN_ON]
+        } else {
+            vec![50]
         };
-        let given = number(&mut book(never_opened), call);
-        assert_eq!(given, first([1, 6, 4], faults));
+        for tick in ticks {
+            let call = Call::Clock {
+                tick,
+                log_places: log_places(short),
+            };
+            let given = number(&mut book(never_opened), call);
+            assert_eq!(given, first([1, 6, 4], faults));
+        }
     }
 }
 

@@ -1,7 +1,7 @@
 //! The book that owns its log.
 
 use crate::calls::RawBook;
-use crate::{Chain, Joined, Lamps, LorryCell, Refusal, Settings, UnitCell};
+use crate::{Chain, Joined, Lamps, LorryCell, Refusal, Settings, SlideTicks, UnitCell};
 use crate::{CHAIN_PLACES, LOG_PLACES};
 use alloc::boxed::Box;
 use alloc::vec;
@@ -25,6 +25,27 @@ use alloc::vec::Vec;
 /// assert_eq!((why.newest, why.hold), (2, 1));
 ///
 /// assert_eq!(book.clock(29), Err(Refusal::Early));
+/// # Ok::<(), Refusal>(())
+/// ```
+///
+/// The counter passes its end. Links from before it and after it are one window, and the same tick is in another slide by then:
+///
+/// ```
+/// # use kerb::{Book, LorryCell, Mounting, Refusal, Settings, SlideTicks, UnitCell};
+/// let mut book = Book::open(Settings { t0: 4294967290, b: 10, n: 3, mounting: Mounting::Plain })?;
+/// book.link(4294967295, UnitCell(3), UnitCell(4))?;
+/// book.link(4, UnitCell(4), UnitCell(5))?;
+/// assert_eq!((book.time(), book.total(), book.open_slide()), (4, 10, 1));
+/// assert_eq!(book.why(LorryCell(3), LorryCell(5))?.0.newest, 0);
+/// let over_the_end = SlideTicks { first_total: 0, last_total: 9, first: 4294967290, last: 3 };
+/// assert_eq!(book.slide_ticks(0), Some(over_the_end));
+///
+/// // a call goes at most 2147483647 ticks ahead
+/// assert_eq!(book.clock(2147483652), Err(Refusal::Early));
+/// for tick in [2147483651, 4294967295, 4] {
+///     book.clock(tick)?;
+/// }
+/// assert_eq!((book.time(), book.total(), book.open_slide()), (4, 4294967306, 429496730));
 /// # Ok::<(), Refusal>(())
 /// ```
 #[derive(Clone, Debug, PartialEq, Eq)]
@@ -57,9 +78,8 @@ impl Book {
     }
 
     /// The book and the log that were stored: `raw` and `log` of another book. Refuses a log that is too short, and a book that
-    /// is not in order. Whether the two belong together nobody can see; nor whether a mirrored book was stored before 0.2.2, when
-    /// its links stood at other cells: such a book is to be opened anew. One that was stored before 0.2.3 may hold links of cells
-    /// that do not touch; they count until they leave the window.
+    /// is not in order. Whether the two belong together nobody can see. One that was stored before 0.3.0 has another size and layout:
+    /// it is to be opened anew.
     pub fn stored(raw: RawBook, log: Vec<u16>) -> Result<Book, Refusal> {
         if log.len() < LOG_PLACES {
             return Err(Refusal::Short);
@@ -71,7 +91,7 @@ impl Book {
         })
     }
 
-    /// A link of two cells that touch, at a tick.
+    /// A link of two cells that touch, at a tick. It is stored in the slide of the total that the tick makes.
     ///
     /// ```
     /// # use kerb::{Book, Mounting, Refusal, Settings, UnitCell};
@@ -85,7 +105,7 @@ impl Book {
         self.raw.link(&mut self.log, tick, one, other)
     }
 
-    /// The time moves to the tick, and nothing is logged.
+    /// The time moves to the tick, and nothing is logged. To be called at least once a day.
     pub fn clock(&mut self, tick: u32) -> Result<(), Refusal> {
         self.raw.clock(&self.log, tick)
     }
@@ -212,8 +232,7 @@ impl Book {
     /// write(settings, &records, &mut file)?;
     ///
     /// let book = Book::of_file(&file)?;
-    /// assert_eq!((book.time(), book.open_slide()), (7, 0));
-    /// assert_eq!(book.slide_ticks(1), Some((10, 19)));
+    /// assert_eq!((book.time(), book.total(), book.open_slide()), (7, 7, 0));
     /// let groups = book.groups()?;
     /// assert_eq!(groups.links(), 2);
     /// let group = groups.iter().next().unwrap();
@@ -251,18 +270,23 @@ impl Book {
         Ok(groups)
     }
 
-    /// The latest tick that the book has taken.
+    /// The book's time, the latest tick that it has taken: T0 and the total, as the counter goes.
     pub fn time(&self) -> u32 {
-        self.raw.clock.time
+        self.raw.time()
     }
 
-    /// The open slide, that of the book's time.
+    /// How many ticks have passed since T0, each pass of the counter's end counted.
+    pub fn total(&self) -> u64 {
+        self.raw.total()
+    }
+
+    /// The open slide, that of the total.
     pub fn open_slide(&self) -> u64 {
         self.raw.open_slide()
     }
 
-    /// The first and the last tick of a slide; none where no tick reaches it.
-    pub fn slide_ticks(&self, slide: u64) -> Option<(u32, u32)> {
+    /// The totals and the ticks of a slide; none where no total reaches it.
+    pub fn slide_ticks(&self, slide: u64) -> Option<SlideTicks> {
         self.raw.slide_ticks(slide)
     }
 }

@@ -15,17 +15,17 @@ pub struct Settings {
     pub mounting: u8,
 }
 
-/// The settings that a book keeps of its time, and the latest time.
+/// The total, and the settings that a book keeps of its time. The time follows from them: [`time`].
 #[derive(Clone, Copy, Debug, PartialEq, Eq)]
 #[repr(C)]
 pub struct Clock {
+    /// How many ticks have passed since T0, each pass of the counter's end counted.
+    pub total: u64,
     pub t0: u32,
     pub b: u32,
-    /// The latest time.
-    pub time: u32,
     pub n: u8,
     /// No meaning: 0 from an opening on.
-    pub pad: [u8; 3],
+    pub pad: [u8; 7],
 }
 
 /// How the unit is fitted.
@@ -34,7 +34,7 @@ pub struct Clock {
 pub struct Fitting {
     pub mounting: u8,
     /// No meaning: 0 from an opening on.
-    pub pad: [u8; 3],
+    pub pad: [u8; 7],
 }
 
 /// The book without its log, for panels that have no allocator: each call is lent the log. `Book` keeps both together.
@@ -135,6 +135,8 @@ pub struct RecordAnswer {
 #[derive(Clone, Copy, Debug, PartialEq, Eq)]
 #[repr(C)]
 pub struct SlideAnswer {
+    pub first_total: u64,
+    pub last_total: u64,
     pub first: u32,
     pub last: u32,
     pub exists: bool,
@@ -155,18 +157,18 @@ mod layout {
     }
 
     laid_out!(Settings, 12, t0 at 0, b at 4, n at 8, mounting at 9);
-    laid_out!(Clock, 16, t0 at 0, b at 4, time at 8, n at 12, pad at 13);
-    laid_out!(Fitting, 4, mounting at 0, pad at 1);
+    laid_out!(Clock, 24, total at 0, t0 at 8, b at 12, n at 16, pad at 17);
+    laid_out!(Fitting, 8, mounting at 0, pad at 1);
     laid_out!(
-        RawBook, 9300,
+        RawBook, 9312,
         forward_parent at 0,
         forward_size at 2048,
         backward_parent at 4096,
         backward_size at 6144,
         counts at 8192,
         clock at 8256,
-        backward_label at 8272,
-        fitting at 9296
+        backward_label at 8280,
+        fitting at 9304
     );
     laid_out!(JoinedAnswer, 3, number at 0, yes at 1, steps at 2);
     laid_out!(ChainAnswer, 16, newest at 0, cells at 8, hold at 10, number at 11);
@@ -178,7 +180,7 @@ mod layout {
     laid_out!(GroupsAnswer, 8, links at 0, number at 4);
     laid_out!(LampsAnswer, 8, left_cell at 0, right_cell at 2, left at 4, right at 5, number at 6);
     laid_out!(RecordAnswer, 12, tick at 0, one at 4, other at 6, number at 8);
-    laid_out!(SlideAnswer, 12, first at 0, last at 4, exists at 8);
+    laid_out!(SlideAnswer, 32, first_total at 0, last_total at 8, first at 16, last at 20, exists at 24);
 }
 
 mod library {
@@ -238,12 +240,13 @@ mod library {
             out: *mut u8,
             out_bytes: usize,
         ) -> TextOutAnswer;
-        pub safe fn kerb_version_2() -> u32;
+        pub safe fn kerb_version_3() -> u32;
         pub safe fn kerb_book_size() -> usize;
         pub safe fn kerb_lorry_cell(mounting: u8, cell: u16) -> u16;
         pub safe fn kerb_unit_cell(mounting: u8, cell: u16) -> u16;
         pub safe fn kerb_ring(cell: u16) -> u16;
         pub safe fn kerb_sector(cell: u16) -> u16;
+        pub fn kerb_time(book: *const RawBook) -> u32;
         pub fn kerb_open_slide(book: *const RawBook) -> u64;
         pub fn kerb_slide_ticks(book: *const RawBook, slide: u64) -> SlideAnswer;
         pub fn kerb_groups(
@@ -285,7 +288,7 @@ pub fn never_opened() -> RawBook {
 
 /// A library of another version does not link: each has the function of its own version alone.
 pub fn opening(book: &mut RawBook, log: &mut [u16], settings: Settings) -> u8 {
-    library::kerb_version_2();
+    library::kerb_version_3();
     unsafe { library::kerb_opening(book, log.as_mut_ptr(), log.len(), settings) }
 }
 
@@ -332,7 +335,7 @@ mod all {
     use super::*;
 
     pub fn version() -> u32 {
-        library::kerb_version_2()
+        library::kerb_version_3()
     }
 
     pub fn book_size() -> usize {
@@ -353,6 +356,10 @@ mod all {
 
     pub fn sector(cell: u16) -> u16 {
         library::kerb_sector(cell)
+    }
+
+    pub fn time(book: &RawBook) -> u32 {
+        unsafe { library::kerb_time(book) }
     }
 
     pub fn open_slide(book: &RawBook) -> u64 {
@@ -408,7 +415,7 @@ pub use all::*;
 
 impl RawBook {
     /// All bytes of a book. None of them is undefined: the fields fill it, as the layout above says.
-    pub const BYTES: usize = 9_300;
+    pub const BYTES: usize = 9_312;
 
     /// The book's bytes, to be stored or compared.
     pub fn as_bytes(&self) -> &[u8; RawBook::BYTES] {

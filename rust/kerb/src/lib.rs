@@ -6,7 +6,13 @@
 //! - [`calls`] has the same calls as the library gives their answers, number and all.
 //!
 //! What the wrapper leaves to its caller: the stack, of which a call takes up to 128 KB of the calling thread's (`docs/BENCH.md`
-//! has each call's), and to keep a `RawBook` and its log together.
+//! has each call's), to keep a `RawBook` and its log together, and to make a clock call at least once a day.
+//!
+//! Ticks go round: after 4,294,967,295 comes 0. The book keeps the total, the ticks since T0 with every pass of the counter's end
+//! counted. A tick that is less than 2,147,483,648 ahead of the book's time, as the counter goes, is added to it; any other is
+//! [`Refusal::Early`]. The slide of a tick is that of the total that it makes: **it does not follow from the tick alone**, but from all
+//! that the book has taken since T0. After a silence of 24.9 to 49.7 days (in ms) the next tick is refused, and the book has to be opened
+//! anew; after a longer one nothing can see it, and a link from before may count as if it were just seen.
 //!
 //! ```
 //! use kerb::{Book, LorryCell, Mounting, Settings, UnitCell, CELLS};
@@ -116,4 +122,18 @@ pub struct Chain {
     pub hold: u8,
     /// How many cells stand at the front of the chain buffer.
     pub cells: u16,
+}
+
+/// What a slide has of time, from its first tick to its last.
+///
+/// The ticks follow from the totals: T0 and the total, as the counter goes. So `last` is below `first` where the counter passes its
+/// end in the slide.
+#[derive(Clone, Copy, Debug, PartialEq, Eq)]
+pub struct SlideTicks {
+    /// The total at the slide's first tick.
+    pub first_total: u64,
+    /// The total at its last.
+    pub last_total: u64,
+    pub first: u32,
+    pub last: u32,
 }

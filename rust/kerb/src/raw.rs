@@ -1,7 +1,7 @@
 //! The book that is lent its log at every call.
 
 use crate::calls::{self, RawBook};
-use crate::{Chain, Joined, Lamps, LorryCell, Refusal, Settings, UnitCell};
+use crate::{Chain, Joined, Lamps, LorryCell, Refusal, Settings, SlideTicks, UnitCell};
 
 /// ```
 /// use kerb::{LorryCell, Mounting, RawBook, Refusal, Settings, UnitCell, CHAIN_PLACES, LOG_PLACES};
@@ -30,7 +30,7 @@ impl RawBook {
         Refusal::unless_done(calls::opening(self, log, settings.raw()))
     }
 
-    /// A link of two cells that touch, at a tick.
+    /// A link of two cells that touch, at a tick. It is stored in the slide of the total that the tick makes.
     pub fn link(
         &mut self,
         log: &mut [u16],
@@ -41,7 +41,7 @@ impl RawBook {
         Refusal::unless_done(calls::link(self, log, tick, one.0, other.0))
     }
 
-    /// The time moves to the tick, and nothing is logged.
+    /// The time moves to the tick, and nothing is logged. To be called at least once a day.
     pub fn clock(&mut self, log: &[u16], tick: u32) -> Result<(), Refusal> {
         Refusal::unless_done(calls::clock(self, log, tick))
     }
@@ -75,15 +75,30 @@ impl RawBook {
 }
 
 impl RawBook {
-    /// The open slide, that of the book's time.
+    /// The book's time, the latest tick that it has taken: T0 and the total, as the counter goes. 0 for a book that was never opened.
+    pub fn time(&self) -> u32 {
+        calls::time(self)
+    }
+
+    /// How many ticks have passed since T0, each pass of the counter's end counted.
+    pub fn total(&self) -> u64 {
+        self.clock.total
+    }
+
+    /// The open slide, that of the total.
     pub fn open_slide(&self) -> u64 {
         calls::open_slide(self)
     }
 
-    /// The first and the last tick of a slide; none where no tick reaches it.
-    pub fn slide_ticks(&self, slide: u64) -> Option<(u32, u32)> {
+    /// The totals and the ticks of a slide; none where no total reaches it.
+    pub fn slide_ticks(&self, slide: u64) -> Option<SlideTicks> {
         let answer = calls::slide_ticks(self, slide);
-        answer.exists.then_some((answer.first, answer.last))
+        answer.exists.then_some(SlideTicks {
+            first_total: answer.first_total,
+            last_total: answer.last_total,
+            first: answer.first,
+            last: answer.last,
+        })
     }
 
     /// Of each cell its group's smallest cell, number of cells and least hold, at the cell's place of the three buffers, each

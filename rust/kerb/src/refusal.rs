@@ -5,8 +5,8 @@ use core::fmt;
 /// A refusal; each has its number in the table, and says it in words.
 ///
 /// ```
-/// let refusal = kerb::Refusal::Early;
-/// assert_eq!(refusal.to_string(), "number 4: the tick is before the book's time");
+/// let refusal = kerb::Refusal::Full;
+/// assert_eq!(refusal.to_string(), "number 5: the link's slide already holds 256 links");
 /// ```
 #[derive(Clone, Copy, Debug, PartialEq, Eq)]
 #[repr(u8)]
@@ -39,7 +39,9 @@ impl Refusal {
             Refusal::NoBook => "the book was never opened, or was altered beyond its ranges",
             Refusal::Settings => "n, B or the mounting is outside its values",
             Refusal::NoCell => "a cell is 1024 or more",
-            Refusal::Early => "the tick is before the book's time",
+            Refusal::Early => {
+                "the tick is before the book's time, or 2,147,483,648 or more after it, which looks the same; or the total has run out"
+            }
             Refusal::Full => "the link's slide already holds 256 links",
             Refusal::Short => "a lent buffer is too short",
             Refusal::NoTrail => "no links of the window chain the two cells",

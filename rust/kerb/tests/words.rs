@@ -75,7 +75,8 @@ fn an_opening_leaves_no_byte_of_what_was_there() {
     let (book, log) = opened(0xA5);
     assert_eq!(opened(0x5A).0.as_bytes(), book.as_bytes());
     assert_eq!(opened(0x5A).1, log);
-    assert_eq!((book.clock.pad, book.fitting.pad), ([0; 3], [0; 3]));
+    assert_eq!((book.clock.pad, book.fitting.pad), ([0; 7], [0; 7]));
+    assert_eq!((book.time(), book.total()), (7, 0));
     assert_eq!(
         kerb::RawBook::never_opened().as_bytes(),
         &[0; kerb::RawBook::BYTES]

@@ -2,6 +2,7 @@
 
 use crate::cells::{both_are_cells, both_touch, in_lorrys_numbers, MIRRORED, PLAIN};
 use crate::refusal::{refuse_if, Refusal};
+use crate::ticks::{steps_to, tick_after, MOST_TOTAL};
 
 /// The log needs this many 16-bit places.
 pub const LOG_PLACES: usize = 16_384;
@@ -34,9 +35,10 @@ impl Settings {
         )
     }
 
-    /// Slide of a tick = (tick - T0) div B. Only for a tick not before T0.
-    pub fn slide_of(&self, tick: u32) -> u64 {
-        u64::from((tick - self.t0) / self.b)
+    /// Slide of a tick = the total that it makes div B. So the tick alone does not
+    /// tell it.
+    pub fn slide_of(&self, total: u128) -> u64 {
+        u64::try_from(total / u128::from(self.b)).expect("a total that has not run out")
     }
 }
 
@@ -52,10 +54,12 @@ pub struct Link {
 #[derive(Clone, Debug, PartialEq, Eq)]
 pub struct History {
     pub settings: Settings,
-    /// The latest time.
+    /// The latest tick that was taken; T0 before any was.
     pub time: u32,
+    /// The steps of all ticks that were taken, added up.
+    pub total: u128,
     /// All accepted links in order of arrival. Their slides never fall, since
-    /// time never goes back.
+    /// the total never does.
     pub links: Vec<Link>,
 }
 
@@ -83,6 +87,7 @@ impl Book {
         self.history = Some(History {
             settings,
             time: settings.t0,
+            total: 0,
             links: Vec::new(),
         });
         Ok(())
@@ -95,12 +100,12 @@ impl Book {
         long_enough(log_places, LOG_PLACES)?;
         both_are_cells(a, b)?;
         both_touch(a, b)?;
-        history.not_before_time(tick)?;
-        let slide = history.settings.slide_of(tick);
+        let total = history.total_at(tick)?;
+        let slide = history.settings.slide_of(total);
         history.has_room(slide)?;
 
         let mounting = history.settings.mounting;
-        history.time = tick;
+        history.move_to(tick, total);
         history.links.push(Link {
             slide,
             a: in_lorrys_numbers(a, mounting),
@@ -113,8 +118,8 @@ impl Book {
     pub fn clock(&mut self, tick: u32, log_places: usize) -> Result<(), Refusal> {
         let history = self.history.as_mut().ok_or(Refusal::NeverOpened)?;
         long_enough(log_places, LOG_PLACES)?;
-        history.not_before_time(tick)?;
-        history.time = tick;
+        let total = history.total_at(tick)?;
+        history.move_to(tick, total);
         Ok(())
     }
 
@@ -125,10 +130,29 @@ impl Book {
 }
 
 impl History {
-    /// Number 4: the tick is before the book's time. Time starts at T0, so a
-    /// tick before T0 is refused with it.
-    fn not_before_time(&self, tick: u32) -> Result<(), Refusal> {
-        refuse_if(tick < self.time, Refusal::Tick)
+    /// A history without links at a total that calls need not have made: what
+    /// altered books and the last totals of all are compared with.
+    pub fn at_total(settings: Settings, total: u128) -> History {
+        History {
+            settings,
+            time: tick_after(settings.t0, total),
+            total,
+            links: Vec::new(),
+        }
+    }
+
+    /// The total that a tick makes. Number 4: the tick is not later than the book's
+    /// time or equal to it, or the total would run out.
+    pub fn total_at(&self, tick: u32) -> Result<u128, Refusal> {
+        let steps = steps_to(self.time, tick).ok_or(Refusal::Tick)?;
+        let total = self.total + steps;
+        refuse_if(total > MOST_TOTAL, Refusal::Tick)?;
+        Ok(total)
+    }
+
+    fn move_to(&mut self, tick: u32, total: u128) {
+        self.time = tick;
+        self.total = total;
     }
 
     /// Number 5: the link's slide already holds 256.
@@ -142,9 +166,9 @@ impl History {
         u64::from(self.settings.n)
     }
 
-    /// The open slide k is the slide of the latest time.
+    /// The open slide k is the slide of the latest tick.
     pub fn open_slide(&self) -> u64 {
-        self.settings.slide_of(self.time)
+        self.settings.slide_of(self.total)
     }
 
     /// The first slide of the window: the open slide and the n - 1 slides

@@ -1,11 +1,11 @@
 //! An independent reading of the document "The intended build and its rules".
 //!
 //! This program was written from that page alone, and the text lists, the mirror
-//! rule, which cells touch and the lamps from the requests for them. It keeps the
-//! plain list of all accepted links and searches the window's links afresh for every
-//! question. The two forests are built for the step counts only, link by link as the
-//! rules say, and thrown away again. Nothing is remembered from one question to the
-//! next.
+//! rule, which cells touch, the lamps and the counter that goes round from the
+//! requests for them. It keeps the plain list of all accepted links and searches the
+//! window's links afresh for every question. The two forests are built for the step
+//! counts only, link by link as the rules say, and thrown away again. Nothing is
+//! remembered from one question to the next.
 //!
 //! Every call gives `Ok` with its result fields, or `Err` with the refusal.
 //! "With a refusal the other result fields are 0" is then
@@ -28,6 +28,7 @@ mod listing;
 mod refusal;
 mod search;
 mod text;
+mod ticks;
 
 pub use book::{Book, History, Link, Settings, LINKS_PER_SLIDE, LOG_PLACES};
 pub use cells::{
@@ -46,3 +47,4 @@ pub use listing::listing;
 pub use refusal::{number, Refusal};
 pub use search::{CellSet, Linked};
 pub use text::{line_of, text_in, text_out, TextRefused};
+pub use ticks::{steps_to, tick_after, MOST_TOTAL, TURN};

@@ -9,7 +9,8 @@ pub enum Refusal {
     Settings = 2,
     /// A cell is 1024 or more.
     Cell = 3,
-    /// The tick is before the book's time.
+    /// The tick is half a turn of the counter or more ahead of the book's time, as
+    /// one before it is too; or the total has run out.
     Tick = 4,
     /// The link's slide already holds 256.
     SlideFull = 5,

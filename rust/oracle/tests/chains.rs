@@ -116,8 +116,8 @@ fn chains_by_brute_force() {
         let mut book = random_book(&mut dice, 6);
         let a = cell_of(&mut dice, &book, 6);
         let b = cell_of(&mut dice, &book, 6);
-        let later = history(&book).time + dice.below(4);
-        assert_eq!(clock(&mut book, later), 0);
+        let tick = later(&book, dice.below(4));
+        assert_eq!(clock(&mut book, tick), 0);
         let history = history(&book);
         let k = history.open_slide();
         let from = |l: u64| -> Vec<Link> {
@@ -166,9 +166,8 @@ fn hold_is_the_number_of_closings_survived() {
         for closing in 0..=n + 1 {
             let expected = a == b || closing <= hold;
             assert_eq!(joined(&book, a, b).0, expected);
-            let b_ticks = history(&book).settings.b;
-            let later = history(&book).time + b_ticks;
-            assert_eq!(clock(&mut book, later), 0);
+            let tick = later(&book, history(&book).settings.b);
+            assert_eq!(clock(&mut book, tick), 0);
         }
     }
     assert!(seen[..5].iter().all(|&times| times > 5), "{:?}", seen);

@@ -1,5 +1,5 @@
-//! Far links, self links and huge jumps, each a test of its own: no other test has
-//! any of them.
+//! Far links, self links and huge jumps, each a test of its own. Beside these only
+//! `ticks.rs` has any of them, where half a turn begins.
 
 mod common;
 use common::*;
@@ -36,21 +36,25 @@ fn self_links() {
     assert_eq!(text, "refused 14 0\n");
 }
 
-/// Slides jumped over are empty, however many: 2^31 ticks and more at once. A tick
-/// that far back is before the book's time as any other.
+/// 2^31 ticks ahead and more are refused, and leave no trace. A tick that far back is
+/// the same tick.
 #[test]
 fn huge_jumps() {
-    for jump in [1 << 31, 4_000_000_000, u32::MAX] {
-        let mut book = opened(16, 1, PLAIN, 0);
-        links(&mut book, &[(0, 1, 2), (jump, 3, 4)]);
-        assert_eq!(history(&book).window().len(), 1);
-        assert_eq!(chain(&book, 3, 4), Ok((u64::from(jump), 15, vec![3, 4])));
-        for tick in [0, jump - (1 << 31)] {
+    for t0 in [0, 1_000_000_000, 4_000_000_000] {
+        for jump in [1 << 31, 3_000_000_000, 4_000_000_000, u32::MAX] {
+            let mut book = opened(16, 1, PLAIN, t0);
+            links(&mut book, &[(t0, 1, 2)]);
+            let before = book.clone();
+            let tick = later(&book, jump);
             assert_eq!(clock(&mut book, tick), 4);
             assert_eq!(link(&mut book, tick, 3, 4), 4);
+            // 3 and 14 come before it.
+            assert_eq!(link(&mut book, tick, 3, 1024), 3);
+            assert_eq!(link(&mut book, tick, 3, 5), 14);
+            assert_eq!(book, before);
+            let records = [(t0, 8, 9), (t0, 9, 10), (tick, 8, 9), (t0, 8, 9)];
+            let text = listing(&file(settings(16, 1, PLAIN, t0), &records));
+            assert_eq!(text, "refused 4 2\n");
         }
-        let mut book = opened(16, 1, PLAIN, 0);
-        assert_eq!(clock(&mut book, jump), 0);
-        assert_eq!(history(&book).open_slide(), u64::from(jump));
     }
 }

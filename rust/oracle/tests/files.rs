@@ -252,7 +252,8 @@ fn the_groups_of_the_listing_by_brute_force() {
         text += &format!("links {}\n", of.window().len());
 
         let arrived = |link: &Link| {
-            let tick = of.settings.t0 + link.slide as u32 * of.settings.b;
+            let into = link.slide as u32 * of.settings.b;
+            let tick = of.settings.t0.wrapping_add(into);
             let mounting = of.settings.mounting;
             (
                 tick,

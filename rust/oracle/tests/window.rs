@@ -45,14 +45,27 @@ fn time_starts_at_t0_and_a_tick_before_it_is_refused() {
 
 #[test]
 fn slide_of_a_tick() {
-    let set = settings(3, 10, PLAIN, 7);
     for (tick, slide) in [(7, 0), (16, 0), (17, 1), (26, 1), (27, 2)] {
-        assert_eq!(set.slide_of(tick), slide);
+        let mut book = opened(3, 10, PLAIN, 7);
+        assert_eq!(clock(&mut book, tick), 0);
+        assert_eq!(history(&book).open_slide(), slide);
     }
-    // The last tick there is, with the shortest and the longest slides.
-    assert_eq!(settings(1, 1, 1, 0).slide_of(u32::MAX), 4_294_967_295);
-    assert_eq!(settings(1, u32::MAX, 1, 0).slide_of(u32::MAX), 1);
-    assert_eq!(settings(1, u32::MAX, 1, 1).slide_of(u32::MAX), 0);
+}
+
+#[test]
+fn slide_of_a_total() {
+    for (b, total, slide) in [
+        (1, 0, 0),
+        (1, 4_294_967_296, 4_294_967_296),
+        (10, 4_294_967_299, 429_496_729),
+        (10, 4_294_967_300, 429_496_730),
+        (u32::MAX, 4_294_967_294, 0),
+        (u32::MAX, 4_294_967_295, 1),
+        (1, MOST_TOTAL, 9_223_372_036_854_775_807),
+        (u32::MAX, MOST_TOTAL, 2_147_483_648),
+    ] {
+        assert_eq!(settings(1, b, 1, 5).slide_of(total), slide);
+    }
 }
 
 #[test]
@@ -152,28 +165,4 @@ fn a_refused_opening_lets_the_old_history_go_on() {
     let mut never = Book::new();
     assert_eq!(number(&never.opening(settings(3, 0, 1, 0), LOG_PLACES)), 2);
     assert_eq!(never, Book::new());
-}
-
-#[test]
-fn the_last_tick_of_all_with_slides_of_one_tick() {
-    let mut book = opened(16, 1, PLAIN, 0);
-    for tick in [2_000_000_000, 4_000_000_000] {
-        assert_eq!(clock(&mut book, tick), 0);
-    }
-    links(&mut book, &[(u32::MAX - 1, 1, 2), (u32::MAX, 2, 3)]);
-    let k = u64::from(u32::MAX);
-    assert_eq!(history(&book).open_slide(), k);
-    assert_eq!(chain(&book, 1, 3), Ok((k - 1, 14, vec![1, 2, 3])));
-    // "Even where no tick could still reach that slide."
-    assert_eq!(chain(&book, 2, 3), Ok((k, 15, vec![2, 3])));
-    assert_eq!(chain(&book, 2, 2), Ok((k + 1, 16, vec![2])));
-    assert_eq!(clock(&mut book, u32::MAX), 0);
-}
-
-#[test]
-fn t0_at_the_end_of_the_range() {
-    let mut book = opened(4, 1, PLAIN, u32::MAX);
-    assert_eq!(clock(&mut book, u32::MAX - 1), 4);
-    links(&mut book, &[(u32::MAX, 1, 2)]);
-    assert_eq!(chain(&book, 1, 2), Ok((0, 3, vec![1, 2])));
 }

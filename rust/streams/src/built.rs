@@ -8,19 +8,22 @@
 //! - [`long_chain`]: a chain of 1,023 links;
 //! - [`grid`]: many chains with the fewest links;
 //! - [`full_log`]: every slide of two chunks full;
-//! - [`last_ticks`]: the last slides of all, up to slide 4,294,967,295;
+//! - [`over_the_end`]: windows on both sides of the counter's end, the first time or a
+//!   later one, in slides of 2^32 and more;
+//! - [`longest_hops`]: as far as ticks go at once, over and over;
 //! - [`far_links`], [`self_links`], [`huge_jumps`]: what no other stream has;
 //! - [`zones`]: the ends of the lamps' zones;
-//! - [`all`]: all of these for all n and both mountings.
+//! - [`all`]: all of these for all n and both mountings, half of them with the
+//!   counter's end among their slides.
 
 use crate::call::{ask, Call};
 use crate::dice::Dice;
-use crate::hops::{within_a_hop, LONGEST_HOP};
+use crate::hops::{ahead, back, FARTHEST_BACK, LONGEST_HOP};
 use crate::masks::{draw_good_mask, mask_of, window_of};
 use crate::touching::{far, patch, path, touching_cell, touching_cell_of};
 use oracle::{
-    in_lorrys_numbers, touching_cells, Book, CellSet, Settings, CELLS, CHAIN_PLACES,
-    LINKS_PER_SLIDE, LOG_PLACES, RINGS, SECTORS,
+    in_lorrys_numbers, tick_after, touching_cells, Book, CellSet, History, Settings, CELLS,
+    CHAIN_PLACES, LINKS_PER_SLIDE, LOG_PLACES, RINGS, SECTORS, TURN,
 };
 
 /// A link in the lorry's numbers.
@@ -64,10 +67,22 @@ impl Script {
         u64::from(self.settings.n)
     }
 
+    fn history(&self) -> &History {
+        self.book.history.as_ref().expect("a script is opened")
+    }
+
+    fn time(&self) -> u32 {
+        self.history().time
+    }
+
+    /// The first total of a slide.
+    fn start(&self, slide: u64) -> u128 {
+        u128::from(slide) * u128::from(self.settings.b)
+    }
+
     /// The first tick of a slide.
     fn tick(&self, slide: u64) -> u32 {
-        let tick = u64::from(self.settings.t0) + slide * u64::from(self.settings.b);
-        u32::try_from(tick).expect("built streams stay within the ticks")
+        tick_after(self.settings.t0, self.start(slide))
     }
 
     fn clock(&mut self, slide: u64) {
@@ -95,13 +110,19 @@ impl Script {
         });
     }
 
-    /// Clock calls from T0 to the first tick of a slide, hop by hop.
-    fn hop_from_t0(&mut self, slide: u64) {
-        let mut time = self.settings.t0;
-        while time != self.tick(slide) {
-            time = within_a_hop(time, self.tick(slide));
-            self.clock_at(time);
+    /// Clock calls to a total, hop by hop.
+    fn hop_to(&mut self, total: u128) {
+        while self.history().total < total {
+            let before = self.history().total;
+            self.clock_at(ahead(self.time(), total - before));
+            assert!(self.history().total > before, "a hop is taken");
         }
+    }
+
+    /// A tick by a clock call and by a link, which the book refuses or takes.
+    fn both_at(&mut self, tick: u32, pair: Pair) {
+        self.clock_at(tick);
+        self.link_at(tick, pair);
     }
 
     /// The links in their order over so many slides, as evenly as can be.
@@ -400,28 +421,64 @@ pub fn full_log(settings: Settings, seed: u64) -> Vec<Call> {
     script.calls
 }
 
-/// Slides of one tick, T0 0, and the time hops to the last slides there are:
-/// k up to 4,294,967,295, so that k + 1 passes 32 bits. Some links in each
-/// slide among a few cells, and questions after each.
-pub fn last_ticks(n: u32, mounting: u32, seed: u64) -> Vec<Call> {
-    let settings = Settings {
-        n,
-        b: 1,
-        mounting,
-        t0: 0,
-    };
+/// The counter passes its end for the first time, the second or a later one: the time
+/// hops to some slides before, and goes on slide by slide to some slides after it. In
+/// each slide are links among a few cells, at its first tick, its last and between, and
+/// at the ticks on either side of the end; then a tick that lies back, and questions.
+/// With B 1 these are the slides round 2^32 or a multiple of it.
+pub fn over_the_end(settings: Settings, times: u128, seed: u64) -> Vec<Call> {
     let mut script = Script::opened(settings, seed);
     let cells = draw_patch(&mut script.dice);
-    let last = u64::from(u32::MAX);
-    let first = last - 3 * u64::from(n);
-    script.hop_from_t0(first);
-    for slide in first..=last {
-        for _ in 0..script.dice.between(0, 3) {
-            let pair = draw_pair(&mut script.dice, &cells);
-            script.link(slide, pair);
+    let around = 3 * script.n();
+    // Here the counter shows 0.
+    let end = times * TURN - u128::from(settings.t0);
+    let middle = settings.slide_of(end);
+    script.hop_to(script.start(middle.saturating_sub(around)));
+    for slide in middle.saturating_sub(around)..=middle + around {
+        let (first, next) = (script.start(slide), script.start(slide + 1));
+        let between = first + u128::from(script.dice.below(settings.b.into()));
+        let mut totals = vec![first, between, next - 1];
+        totals.extend(
+            [end - 1, end]
+                .iter()
+                .filter(|of| (first..next).contains(of)),
+        );
+        totals.sort_unstable();
+        for total in totals {
+            script.hop_to(total);
+            for _ in 0..script.dice.between(0, 2) {
+                let pair = draw_pair(&mut script.dice, &cells);
+                script.link_at(script.time(), pair);
+            }
         }
-        script.clock(slide);
-        script.some_questions(cells[0], &cells, 5);
+        let any = script.dice.between(1, FARTHEST_BACK.into());
+        let ticks = script
+            .dice
+            .pick(&[1, 1, u128::from(settings.b), any.into()]);
+        let pair = draw_pair(&mut script.dice, &cells);
+        script.both_at(back(script.time(), ticks), pair);
+        script.some_questions(cells[0], &cells, 3);
+    }
+    script.calls
+}
+
+/// One longest hop after the other, by a clock call or by a link, and after each some
+/// links there and a tick later. With B as long as a hop, each leads to the next slide
+/// and a window goes round the counter several times; with B 1, each leads far out of
+/// the window.
+pub fn longest_hops(settings: Settings, seed: u64) -> Vec<Call> {
+    let mut script = Script::opened(settings, seed);
+    let cells = draw_patch(&mut script.dice);
+    for _ in 0..2 * script.n() + 4 {
+        let tick = ahead(script.time(), LONGEST_HOP.into());
+        if script.dice.one_in(2) {
+            script.clock_at(tick);
+        }
+        for later in [0, 0, 1] {
+            let pair = draw_pair(&mut script.dice, &cells);
+            script.link_at(tick.wrapping_add(later), pair);
+        }
+        script.some_questions(cells[0], &cells, 2);
     }
     script.calls
 }
@@ -477,42 +534,48 @@ pub fn self_links(settings: Settings, first_slide: u64, seed: u64) -> Vec<Call> 
     script.calls
 }
 
-/// Jumps of 2^31 ticks and more, by a clock call and by a link, just so far, to
-/// the last tick and between, in slides of every length; each in a history of its
-/// own, for none has room for two.
+/// Jumps of 2^31 ticks and more, which are refused, in slides of every length and from
+/// T0 in every part of the counter.
 pub fn huge_jumps(n: u32, mounting: u32, seed: u64) -> Vec<Call> {
     let mut dice = Dice::new(seed);
     let mut calls = Vec::new();
-    let least = LONGEST_HOP + 1;
     for b in [1, 1_000, LONGEST_HOP, u32::MAX] {
-        let between = dice.between(u64::from(least), u64::from(u32::MAX)) as u32;
-        for jump in [least, between, u32::MAX] {
-            let settings = Settings {
-                n,
-                b,
-                mounting,
-                t0: dice.below(u64::from(u32::MAX - jump) + 1) as u32,
-            };
-            calls.extend(jump_from_t0(settings, jump, dice.bits()));
+        for t0 in [0, LONGEST_HOP, u32::MAX - 500, dice.bits() as u32] {
+            let settings = Settings { n, b, mounting, t0 };
+            calls.extend(jumps_and_hops(settings, dice.bits()));
         }
     }
     calls
 }
 
-/// Some links, a jump so far from T0, and some more.
-fn jump_from_t0(settings: Settings, jump: u32, seed: u64) -> Vec<Call> {
+/// Some links, then jumps by a clock call and by a link: by 2^31 ticks, as far as a tick
+/// that lies back, between the two, and by 2^32 - 1, which is one tick back. All of them
+/// change nothing. Then a hop that is one tick shorter than the shortest of them and is
+/// taken, and all of it again.
+fn jumps_and_hops(settings: Settings, seed: u64) -> Vec<Call> {
     let mut script = Script::opened(settings, seed);
     let cells = draw_patch(&mut script.dice);
-    let by_clock = script.dice.one_in(2);
-    for tick in [settings.t0, settings.t0 + jump] {
-        if by_clock {
-            script.clock_at(tick);
+    for _ in 0..3 {
+        for _ in 0..5 {
+            let pair = draw_pair(&mut script.dice, &cells);
+            script.link_at(script.time(), pair);
         }
-        for _ in 0..10 {
+        let half_a_turn = LONGEST_HOP + 1;
+        let last = FARTHEST_BACK.wrapping_neg() - 1;
+        let between = script.dice.between(half_a_turn.into(), last.into()) as u32;
+        for jump in [half_a_turn, between, last, u32::MAX] {
+            let pair = draw_pair(&mut script.dice, &cells);
+            script.both_at(script.time().wrapping_add(jump), pair);
+            script.some_questions(cells[0], &cells, 1);
+        }
+        let tick = ahead(script.time(), LONGEST_HOP.into());
+        if script.dice.one_in(2) {
+            script.clock_at(tick);
+        } else {
             let pair = draw_pair(&mut script.dice, &cells);
             script.link_at(tick, pair);
         }
-        script.some_questions(cells[0], &cells, 5);
+        script.some_questions(cells[0], &cells, 2);
     }
     script.calls
 }
@@ -573,16 +636,18 @@ fn draw_far_pair(dice: &mut Dice, one: &[u32], other: &[u32]) -> Pair {
     }
 }
 
-/// Settings whose slides up to 200 have ticks.
-fn draw_settings(dice: &mut Dice, n: u32, mounting: u32) -> Settings {
+/// Settings with T0 0, with any, or so that the counter passes its end in one of the
+/// slides up to a given one.
+fn draw_settings(dice: &mut Dice, n: u32, mounting: u32, last_slide: u64) -> Settings {
     let b = dice.between(1, 1_000) as u32;
-    let latest = u32::MAX - 200 * b;
-    let any = dice.below(u64::from(latest) + 1) as u32;
+    let any = dice.bits() as u32;
+    let before_the_end = dice.between(1, (last_slide + 1) * u64::from(b)) as u32;
+    let t0 = before_the_end.wrapping_neg();
     Settings {
         n,
         b,
         mounting,
-        t0: dice.pick(&[0, any, latest]),
+        t0: dice.pick(&[0, any, t0, t0]),
     }
 }
 
@@ -593,9 +658,10 @@ pub fn all(seed: u64) -> Vec<(String, Vec<Call>)> {
     let mut dice = Dice::new(seed);
     let mut streams = Vec::new();
     let mut add = |n: u32, mounting: u32, what: &str, build: &dyn Fn(Site) -> Vec<Call>| {
+        let chunk = dice.between(1, 5);
         let site = Site {
-            settings: draw_settings(&mut dice, n, mounting),
-            chunk: dice.between(1, 5),
+            settings: draw_settings(&mut dice, n, mounting, (chunk + 1) * u64::from(n)),
+            chunk,
             seed: dice.bits(),
         };
         let name = format!("{} n {} mounting {}", what, n, mounting);
@@ -633,9 +699,26 @@ pub fn all(seed: u64) -> Vec<(String, Vec<Call>)> {
             add(n, mounting, "full log", &|at| {
                 full_log(at.settings, at.seed)
             });
-            add(n, mounting, "last ticks", &|at| {
-                last_ticks(n, mounting, at.seed)
+            for times in [1, 2, 5] {
+                add(n, mounting, &format!("over the end {}", times), &|at| {
+                    over_the_end(at.settings, times, at.seed)
+                });
+            }
+            add(n, mounting, "over the end in slides of one tick", &|at| {
+                let settings = Settings {
+                    b: 1,
+                    t0: 0,
+                    ..at.settings
+                };
+                let mut calls = over_the_end(settings, 1, at.seed);
+                calls.extend(over_the_end(settings, 3, !at.seed));
+                calls
             });
+            for b in [1, FARTHEST_BACK, LONGEST_HOP, u32::MAX] {
+                add(n, mounting, &format!("longest hops {}", b), &|at| {
+                    longest_hops(Settings { b, ..at.settings }, at.seed)
+                });
+            }
             add(n, mounting, "far links", &|at| {
                 far_links(at.settings, at.any_slide(), at.seed)
             });

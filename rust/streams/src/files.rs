@@ -2,7 +2,7 @@
 
 use crate::call::{Call, LISTING_BYTES};
 use crate::dice::Dice;
-use crate::hops::{huge_jump, within_a_hop};
+use crate::hops::{ahead, any_hop, distance, huge_jump, is_hop, LONGEST_HOP};
 use crate::random::{draw_settings, spoil_settings};
 use crate::scene::Scene;
 use crate::touching::far_cell;
@@ -85,6 +85,8 @@ fn valid_records(dice: &mut Dice, settings: Settings) -> Vec<Record> {
         _ => MOST_RECORDS as u64,
     };
     let moves = dice.pick(&[1, 3, 10, 40, 200]);
+    // Some go round and round.
+    let leaps = dice.pick(&[0, 0, 2, 20]);
     let mut scene = match dice.below(4) {
         0 | 1 => Scene::few(dice),
         2 => Scene::All,
@@ -93,14 +95,20 @@ fn valid_records(dice: &mut Dice, settings: Settings) -> Vec<Record> {
 
     let mut book = Book::new();
     book.opening(settings, LOG_PLACES).expect("good settings");
-    let mut tick = settings.t0;
+    let mut time = settings.t0;
+    // How far the next record is ahead of that.
+    let mut ticks = 0;
     let mut records = Vec::new();
     for _ in 0..wanted {
         if dice.one_in(moves) {
-            let time = records.last().map_or(settings.t0, |of: &Record| of.tick);
-            tick = within_a_hop(time, later(dice, settings, tick));
+            ticks += if leaps > 0 && dice.one_in(leaps) {
+                LONGEST_HOP.into()
+            } else {
+                more_ticks(dice, settings)
+            };
             scene.drift(dice);
         }
+        let tick = ahead(time, ticks);
         let a = scene.cell(dice);
         let b = scene.beside(dice, a);
         let (a, b) = (
@@ -108,6 +116,7 @@ fn valid_records(dice: &mut Dice, settings: Settings) -> Vec<Record> {
             in_lorrys_numbers(b, settings.mounting),
         );
         if book.link(tick, a, b, LOG_PLACES).is_ok() {
+            (time, ticks) = (tick, 0);
             records.push(Record {
                 tick,
                 a: a as u16,
@@ -118,8 +127,8 @@ fn valid_records(dice: &mut Dice, settings: Settings) -> Vec<Record> {
     records
 }
 
-/// A later tick: a little, about a slide, or some slides.
-fn later(dice: &mut Dice, settings: Settings, tick: u32) -> u32 {
+/// How far the time goes on: a little, about a slide, or some slides.
+fn more_ticks(dice: &mut Dice, settings: Settings) -> u128 {
     let b = u64::from(settings.b);
     let more = match dice.below(8) {
         0 => 1,
@@ -128,7 +137,7 @@ fn later(dice: &mut Dice, settings: Settings, tick: u32) -> u32 {
         6 => dice.between(1, 4) * b,
         _ => dice.between(1, 3 * u64::from(settings.n)) * b,
     };
-    u32::try_from(u64::from(tick) + more).unwrap_or(tick)
+    more.into()
 }
 
 /// The fields of a file that can be damaged.
@@ -186,10 +195,9 @@ pub fn damage(dice: &mut Dice, file: &mut Vec<u8>) {
 }
 
 /// Damages one field of a file of at least 24 bytes. A damaged T0, tick or byte
-/// may leave the file good, and so may a huge jump in the last record; the others
-/// are refused, where the field exists, by the reader or in playing. Ticks stay
-/// within a hop of those beside them, but for the jump, and any byte may be that
-/// of a tick or of a cell.
+/// may leave the file good; the others are refused, where the field exists, by the
+/// reader or in playing. Ticks stay within a hop of those beside them, but for the
+/// huge jump, and any byte may be that of a tick or of a cell.
 pub fn damage_field(dice: &mut Dice, file: &mut Vec<u8>, field: Field) {
     let settings = file.len() - TAIL_BYTES;
     let trailer = settings + 12;
@@ -227,21 +235,20 @@ pub fn damage_field(dice: &mut Dice, file: &mut Vec<u8>, field: Field) {
         Field::B => put(file, settings + 4, 0),
         Field::Mounting => file[settings + 9] = dice.pick(&[0, 3, 255]),
         Field::T0 => {
-            let any = dice.bits() as u32;
-            let t0 = if m > 0 {
-                within_a_hop(record(file, 0).tick, any)
+            let first = if m > 0 {
+                record(file, 0).tick
             } else {
-                any
+                dice.bits() as u32
             };
-            put(file, settings, t0);
+            // From there the first record lies ahead or back.
+            let ticks = distance(first, any_hop(dice, first));
+            put(file, settings, first.wrapping_sub(ticks));
         }
         Field::Tick if m > 0 => {
             let place = dice.below(m) as usize;
-            let any = dice.bits() as u32;
-            let tick = dice.pick(&[0, any, u32::MAX]);
-            let mut tick = within_a_hop(time_before(file, place), tick);
-            if place + 1 < m as usize {
-                tick = within_a_hop(record(file, place + 1).tick, tick);
+            let mut tick = any_hop(dice, time_before(file, place));
+            while place + 1 < m as usize && !is_hop(tick, record(file, place + 1).tick) {
+                tick = any_hop(dice, time_before(file, place));
             }
             put(file, RECORD_BYTES * place, tick);
         }
@@ -270,8 +277,7 @@ pub fn damage_field(dice: &mut Dice, file: &mut Vec<u8>, field: Field) {
             put_cell(file, RECORD_BYTES * place + 6, same);
         }
         Field::HugeJump if m > 0 => {
-            // In the last record, so that no later one lies before it.
-            let place = m as usize - 1;
+            let place = dice.below(m) as usize;
             let tick = huge_jump(dice, time_before(file, place));
             put(file, RECORD_BYTES * place, tick);
         }

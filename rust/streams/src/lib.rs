@@ -8,9 +8,9 @@
 //! call left them.
 //!
 //! Links are of cells that touch ([`touching`]) and ticks within a hop of the
-//! book's time ([`hops`]), so that a rule about other links and ticks changes
-//! nothing here: those are in the streams that are named for far links, self
-//! links and huge jumps, and in the files damaged by these.
+//! book's time, as the counter goes round ([`hops`]), so that a rule about other
+//! links and ticks changes nothing here: those are in the streams that are named for
+//! far links, self links and huge jumps, and in the files damaged by these.
 
 #![forbid(unsafe_code)]
 

@@ -5,14 +5,14 @@
 
 use crate::call::{ask, Call, MOST_LOG_PLACES};
 use crate::dice::Dice;
-use crate::hops::{huge_jump, within_a_hop};
+use crate::hops::{ahead, back, huge_jump, FARTHEST_BACK, LONGEST_HOP};
 use crate::masks::{draw_mask, window_of};
 use crate::scene::Scene;
-use oracle::{in_lorrys_numbers, Book, Refusal, Settings, CHAIN_PLACES, LOG_PLACES};
+use oracle::{in_lorrys_numbers, Book, Refusal, Settings, CHAIN_PLACES, LOG_PLACES, TURN};
 
 /// Which cells a random stream uses. Its links are of cells that touch and its
 /// ticks within a hop of the book's time, but for the last three kinds: some of
-/// their links or ticks are what they are named for.
+/// their links or ticks are what they are named for, and refused.
 #[derive(Clone, Copy, Debug, PartialEq, Eq)]
 pub enum Kind {
     /// Patches of 4 to 40 cells.
@@ -23,9 +23,9 @@ pub enum Kind {
     Touching,
     /// The first three in turn, by chance.
     Mixed,
-    /// Mixed, and links of cells that do not touch, which are refused.
+    /// Mixed, and links of cells that do not touch.
     FarLinks,
-    /// Mixed, and links of a cell with itself, which are refused.
+    /// Mixed, and links of a cell with itself.
     SelfLinks,
     /// Mixed, and ticks beyond a hop.
     HugeJumps,
@@ -69,12 +69,20 @@ pub struct Random {
     left: u64,
     /// Links of the burst still to come.
     burst: u64,
-    /// The tick near the last one that the history starts with going to.
-    leap: Option<u32>,
+    /// The total near a pass of the counter's end that the history starts with
+    /// going to.
+    leap: Option<u128>,
     /// The latest call that was no question found its slide full.
     full: bool,
     /// The latest links, in the unit's numbers, for repeats and questions.
     recent: Vec<(u32, u32)>,
+}
+
+/// Where the open history stands.
+struct Now {
+    settings: Settings,
+    time: u32,
+    total: u128,
 }
 
 impl Random {
@@ -98,20 +106,24 @@ impl Random {
         }
     }
 
-    /// The settings and the time of the open history. A book that was never
-    /// opened refuses all, whatever is used in their place.
-    fn now(&self) -> (Settings, u32) {
+    /// A book that was never opened refuses all, whatever is used in its place.
+    fn now(&self) -> Now {
         match &self.book.history {
-            Some(history) => (history.settings, history.time),
-            None => {
-                let settings = Settings {
+            Some(history) => Now {
+                settings: history.settings,
+                time: history.time,
+                total: history.total,
+            },
+            None => Now {
+                settings: Settings {
                     n: 4,
                     b: 10,
                     mounting: 1,
                     t0: 100,
-                };
-                (settings, 100)
-            }
+                },
+                time: 100,
+                total: 0,
+            },
         }
     }
 
@@ -130,7 +142,7 @@ impl Random {
         self.recent.clear();
         let settings = draw_settings(&mut self.dice);
         self.leap = if self.dice.one_in(5) {
-            Some(tick_near_the_last(&mut self.dice, settings))
+            Some(total_near_an_end(&mut self.dice, settings))
         } else {
             None
         };
@@ -141,8 +153,8 @@ impl Random {
     }
 
     fn draw(&mut self) -> Call {
-        if let Some(tick) = self.leap {
-            return self.leap_call(tick);
+        if let Some(total) = self.leap {
+            return self.leap_call(total);
         }
         if self.burst > 0 && !self.dice.one_in(4) {
             self.burst -= 1;
@@ -161,15 +173,15 @@ impl Random {
         }
     }
 
-    /// A clock call far ahead, hop by hop to where only a few slides are left.
-    fn leap_call(&mut self, last: u32) -> Call {
-        let (_, time) = self.now();
-        let tick = within_a_hop(time, last);
-        if tick == last {
+    /// A clock call far ahead, hop by hop to where the end is a few slides away.
+    fn leap_call(&mut self, wanted: u128) -> Call {
+        let now = self.now();
+        let ticks = wanted - now.total;
+        if ticks <= u128::from(LONGEST_HOP) {
             self.leap = None;
         }
         Call::Clock {
-            tick,
+            tick: ahead(now.time, ticks),
             log_places: LOG_PLACES,
         }
     }
@@ -250,33 +262,21 @@ impl Random {
         if self.full && self.dice.one_in(10) {
             self.burst = 0;
         }
-        if self.in_last_slide() {
-            // Little can follow, and nothing but refusals once it is full.
-            self.left = self.left.min(if self.full { 10 } else { 100 });
-        }
-    }
-
-    /// Whether no tick is left beyond the open slide.
-    fn in_last_slide(&self) -> bool {
-        let (settings, time) = self.now();
-        settings.slide_of(u32::MAX) == settings.slide_of(time)
     }
 
     // Ticks.
 
     fn tick(&mut self) -> u32 {
-        let (_, time) = self.now();
+        let time = self.now().time;
         if self.strays(Kind::HugeJumps) {
-            return huge_jump(&mut self.dice, time);
-        }
-        let tick = if self.spoilt() {
+            huge_jump(&mut self.dice, time)
+        } else if self.spoilt() {
             self.old_tick()
         } else if self.moves_on() {
             self.later_tick()
         } else {
             time
-        };
-        within_a_hop(time, tick)
+        }
     }
 
     /// Whether the time moves: by habit, and soon where a slide is full.
@@ -288,44 +288,44 @@ impl Random {
         }
     }
 
-    /// A tick before the book's time, where there is one.
+    /// A tick before the book's time: mostly the one before it, else that before T0
+    /// or any that is not too far back.
     fn old_tick(&mut self) -> u32 {
-        let (settings, time) = self.now();
+        let Now { time, total, .. } = self.now();
         match self.dice.below(4) {
-            0 => settings.t0.saturating_sub(1),
-            1 => self.dice.below(u64::from(time) + 1) as u32,
-            _ => time.saturating_sub(1),
+            0 => back(time, total + 1),
+            1 => back(time, self.dice.between(1, FARTHEST_BACK.into()).into()),
+            _ => back(time, 1),
         }
     }
 
     /// A later tick: by one, to the edges of slides and chunks, out of the
-    /// window, or over chunks.
+    /// window, over chunks, or as far as a hop goes. Where that is farther than a
+    /// hop, a hop ahead.
     fn later_tick(&mut self) -> u32 {
         self.habits.scene.drift(&mut self.dice);
-        let (settings, time) = self.now();
-        let (n, b) = (u64::from(settings.n), u64::from(settings.b));
-        let k = settings.slide_of(time);
+        let now = self.now();
+        let n = u64::from(now.settings.n);
+        let b = u128::from(now.settings.b);
+        let k = now.settings.slide_of(now.total);
         let next_chunk = (k / n + 1) * n;
-        let start_of = |slide: u64| u64::from(settings.t0) + slide * b;
-        let ways = if self.habits.creeps { 8 } else { 14 };
-        let tick = match self.dice.below(ways) {
-            0 | 1 => u64::from(time) + 1,
+        let start_of = |slide: u64| u128::from(slide) * b;
+        let ways = if self.habits.creeps { 8 } else { 15 };
+        let total = match self.dice.below(ways) {
+            0 | 1 => now.total + 1,
             2 => start_of(k + 1) - 1,
             3..=5 => start_of(k + 1),
-            6 | 7 => start_of(k + 1) + self.dice.below(b),
+            6 | 7 => start_of(k + 1) + u128::from(self.dice.below(now.settings.b.into())),
             8 => start_of(k + 1 + self.dice.below(n)),
             9 => start_of(next_chunk) - 1,
             10 => start_of(next_chunk),
             11 => start_of(k + n + self.dice.below(2)),
             12 => start_of(next_chunk + n - 1 + self.dice.below(3)),
-            _ => start_of(next_chunk + n * self.dice.below(4) + self.dice.below(n)),
+            13 => start_of(next_chunk + n * self.dice.below(4) + self.dice.below(n)),
+            _ if self.dice.one_in(4) => now.total + u128::from(LONGEST_HOP),
+            _ => now.total + 1,
         };
-        match u32::try_from(tick) {
-            Ok(tick) => tick,
-            // No such tick. Mostly stay, so that the history has some length.
-            Err(_) if self.dice.one_in(8) => u32::MAX,
-            Err(_) => time,
-        }
+        ahead(now.time, total - now.total)
     }
 
     // Cells.
@@ -367,7 +367,7 @@ impl Random {
 
     /// Mirroring twice changes nothing, so this goes both ways.
     fn mirror_for_unit(&self, cell: u32) -> u32 {
-        in_lorrys_numbers(cell, self.now().0.mounting)
+        in_lorrys_numbers(cell, self.now().settings.mounting)
     }
 
     fn scene_cell(&mut self) -> u32 {
@@ -445,11 +445,13 @@ fn short_log(dice: &mut Dice) -> usize {
     dice.pick(&[0, 1, LOG_PLACES / 2, LOG_PLACES - 1, any])
 }
 
-/// A tick after which only a few slides are left.
-fn tick_near_the_last(dice: &mut Dice, settings: Settings) -> u32 {
+/// A total a few slides before the counter passes its end: mostly for the first time,
+/// else later on.
+fn total_near_an_end(dice: &mut Dice, settings: Settings) -> u128 {
+    let turns = dice.pick(&[1, 1, 2, 3, 4]);
+    let end = turns * TURN - u128::from(settings.t0);
     let few_slides = 3 * u64::from(settings.n) * u64::from(settings.b);
-    let back = dice.below(few_slides + 1).min(u64::from(u32::MAX));
-    settings.t0.max(u32::MAX - back as u32)
+    end.saturating_sub(dice.below(few_slides + 1).into())
 }
 
 /// Settings that are taken: all n, both mountings, small and huge B, T0 near

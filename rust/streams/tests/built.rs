@@ -1,6 +1,7 @@
 //! The built streams reach what they were built for, by the oracle's answers.
 
-use oracle::{Book, Settings};
+use oracle::{Book, History, Settings, TURN};
+use streams::hops::{distance, LONGEST_HOP};
 use streams::{ask, built, Answer, Call};
 
 fn settings(n: u32, mounting: u32) -> Settings {
@@ -32,15 +33,39 @@ struct Reached {
     dark: u32,
     full_slides: u32,
     apart: u32,
+    /// Ticks that were refused, and those among them that lie half a turn ahead.
+    early: u32,
+    half_turns: u32,
+    /// Ticks that were taken as far ahead as can be.
+    longest_hops: u32,
+    /// Ticks that were taken and passed the end of the counter.
+    passes: u32,
+    /// Questions with links of the window on both sides of an end.
+    both_sides: u32,
+    /// The largest open slide.
+    slide: u64,
 }
 
-/// Runs a stream. Only full slides and cells that do not touch may be refused in it,
-/// and they are counted.
+/// Runs a stream. Only full slides, cells that do not touch and ticks may be refused in
+/// it, and they are counted.
 fn run(calls: &[Call]) -> Reached {
     let mut book = Book::new();
     let mut reached = Reached::default();
     for call in calls {
+        let before = book.history.as_ref().map(|history| history.time);
         let answer = ask(&mut book, call);
+        let number = answer.number();
+        if let (Call::Link { tick, .. } | Call::Clock { tick, .. }, Some(time)) = (call, before) {
+            let ticks = distance(time, *tick);
+            reached.half_turns += u32::from(number == 4 && ticks == 1 << 31);
+            reached.longest_hops += u32::from(number == 0 && ticks == LONGEST_HOP);
+            reached.passes += u32::from(number == 0 && *tick < time);
+        }
+        let history = book.history.as_ref().expect("a stream opens first");
+        reached.slide = reached.slide.max(history.open_slide());
+        if call.is_question() {
+            reached.both_sides += u32::from(lies_on_both_sides(history));
+        }
         match (call, answer) {
             (Call::Joined { first, second }, Answer::Joined { joined, steps, .. }) => {
                 let most = if first == second {
@@ -75,14 +100,30 @@ fn run(calls: &[Call]) -> Reached {
                 reached.right += u32::from(right);
                 reached.dark += u32::from(!left) + u32::from(!right);
             }
-            (_, answer) => {
-                assert!([0, 5, 14].contains(&answer.number()), "{:?}", call);
-                reached.full_slides += u32::from(answer.number() == 5);
-                reached.apart += u32::from(answer.number() == 14);
+            _ => {
+                assert!([0, 4, 5, 14].contains(&number), "{:?}", call);
+                reached.early += u32::from(number == 4);
+                reached.full_slides += u32::from(number == 5);
+                reached.apart += u32::from(number == 14);
             }
         }
     }
     reached
+}
+
+/// Whether the window has a link of a slide that lies before the latest pass of the
+/// counter's end, and one of a slide that lies after it.
+fn lies_on_both_sides(history: &History) -> bool {
+    let (t0, b) = (
+        u128::from(history.settings.t0),
+        u128::from(history.settings.b),
+    );
+    let end = ((t0 + history.total) / TURN * TURN).saturating_sub(t0);
+    let start = |slide: u64| u128::from(slide) * b;
+    let before = |slide: u64| start(slide) + b <= end;
+    let after = |slide: u64| start(slide) >= end && end > 0;
+    let window = history.window();
+    window.iter().any(|link| before(link.slide)) && window.iter().any(|link| after(link.slide))
 }
 
 fn look_at_walks(book: &Book, cells: &[u32], reached: &mut Reached) {
@@ -220,18 +261,56 @@ fn full_logs_are_full() {
 }
 
 #[test]
-fn the_last_slides_of_all() {
-    for n in [1, 7, 16] {
-        let calls = built::last_ticks(n, 2, 6);
-        let mut book = Book::new();
-        let mut largest_l = 0;
-        for call in &calls {
-            if let Answer::Chain { l, .. } = ask(&mut book, call) {
-                largest_l = largest_l.max(l);
+fn windows_over_the_end() {
+    for n in [3, 7, 16] {
+        for (b, t0, times) in [(1, 0, 1), (1, 0, 3), (7, 1_000, 1), (900, 4_294_960_000, 2)] {
+            let settings = Settings {
+                b,
+                t0,
+                ..settings(n, 2)
+            };
+            let reached = run(&built::over_the_end(settings, times, 6));
+            assert_eq!(u128::from(reached.passes), times, "{:?}", reached);
+            assert!(reached.both_sides > 10, "{:?}", reached);
+            assert!(reached.early > 2 * n, "{:?}", reached);
+            let end = times * TURN - u128::from(t0);
+            let last = end / u128::from(b) + 3 * u128::from(n);
+            assert_eq!(u128::from(reached.slide), last);
+            assert_eq!((reached.full_slides, reached.half_turns), (0, 0));
+        }
+    }
+}
+
+#[test]
+fn one_longest_hop_after_the_other() {
+    for n in [1, 4, 16] {
+        for b in [1, 1 << 30, LONGEST_HOP, u32::MAX] {
+            let settings = Settings {
+                b,
+                ..settings(n, 1)
+            };
+            let reached = run(&built::longest_hops(settings, 7));
+            // Every second passes the end, and so may the tick after one.
+            assert!(reached.longest_hops >= 2 * n + 4, "{:?}", reached);
+            assert!(reached.passes >= n + 2, "{:?}", reached);
+            let total = u64::from(2 * n + 4) << 31;
+            assert_eq!(reached.slide, (total / u64::from(b)).max(1), "{:?}", b);
+            assert_eq!(reached.early, 0);
+            if b == LONGEST_HOP && n > 1 {
+                assert!(reached.both_sides > 10 * n, "{:?}", reached);
             }
         }
-        assert_eq!(largest_l, 4_294_967_296);
-        assert_eq!(book.history.unwrap().open_slide(), 4_294_967_295);
+    }
+}
+
+#[test]
+fn huge_jumps_are_refused_and_the_longest_hop_is_taken() {
+    for n in [1, 16] {
+        let reached = run(&built::huge_jumps(n, 2, 8));
+        // 16 histories, in each three times four jumps by two calls.
+        assert_eq!((reached.early, reached.half_turns), (384, 96));
+        assert_eq!(reached.longest_hops, 48);
+        assert!(reached.passes >= 16, "{:?}", reached);
     }
 }
 
@@ -258,7 +337,8 @@ fn all_built_streams_run() {
         ("long chain", 26),
         ("grid", 32),
         ("full log", 32),
-        ("last ticks", 32),
+        ("over the end", 128),
+        ("longest hops", 128),
         ("far links", 32),
         ("self links", 32),
         ("huge jumps", 32),
@@ -268,6 +348,7 @@ fn all_built_streams_run() {
         assert!(streams.iter().filter(of).count() >= least, "{}", what);
     }
     let mut most = Reached::default();
+    let (mut passing, mut on_both_sides) = (0, 0);
     for (name, calls) in &streams {
         let reached = run(calls);
         assert!(reached.yes > 0, "{}", name);
@@ -276,6 +357,10 @@ fn all_built_streams_run() {
         assert_eq!(reached.full_slides > 0, full, "{}", name);
         let apart = name.starts_with("far links") || name.starts_with("self links");
         assert_eq!(reached.apart > 0, apart, "{}", name);
+        let early = name.starts_with("over the end") || name.starts_with("huge jumps");
+        assert_eq!(reached.early > 0, early, "{}", name);
+        passing += u32::from(reached.passes > 0);
+        on_both_sides += u32::from(reached.both_sides > 0);
         most.steps_itself = most.steps_itself.max(reached.steps_itself);
         most.steps_two = most.steps_two.max(reached.steps_two);
         most.cells = most.cells.max(reached.cells);
@@ -284,5 +369,8 @@ fn all_built_streams_run() {
         (most.steps_itself, most.steps_two, most.cells),
         (40, 38, 1024)
     );
+    // Beside the streams that are made for it many others pass the end.
+    assert!(passing > 400, "{}", passing);
+    assert!(on_both_sides > 250, "{}", on_both_sides);
     assert_eq!(streams, built::all(1));
 }

@@ -1,6 +1,6 @@
 //! The streams of link files: damaged fields are met with their numbers.
 
-use oracle::{listing, number, play, read, Book, PlayRefused, Refusal};
+use oracle::{listing, number, play, read, Book, PlayRefused, Refusal, TURN};
 use std::collections::BTreeSet;
 use streams::files::{edge_files, every_field, valid_file, Field, Files};
 use streams::{ask, Call, Dice};
@@ -24,6 +24,25 @@ fn valid_files_play_to_the_end() {
     }
     assert!(lengths.contains(&24) && lengths.len() > 100);
     assert!(lengths.iter().any(|&length| length > 32_000));
+}
+
+/// Their open slides have up to 10 digits as those of one turn of the counter have, and
+/// more.
+#[test]
+fn valid_files_pass_the_end_of_the_counter() {
+    let mut dice = Dice::new(5);
+    let (mut passing, mut digits) = (0, BTreeSet::new());
+    for _ in 0..400 {
+        let file = valid_file(&mut dice);
+        let book = play(&file).unwrap();
+        let history = book.history.unwrap();
+        let turns = (u128::from(history.settings.t0) + history.total) / TURN;
+        passing += u32::from(turns > 0);
+        digits.insert(history.open_slide().to_string().len());
+    }
+    assert!((100..300).contains(&passing), "{} of 400", passing);
+    assert!(digits.contains(&1) && digits.contains(&10), "{:?}", digits);
+    assert!(digits.iter().any(|&digits| digits > 11), "{:?}", digits);
 }
 
 /// The number that a damaged field must earn, if it must.
@@ -62,9 +81,8 @@ fn every_damaged_field_earns_its_number() {
         if [Field::FarLink, Field::SelfLink].contains(&field) && file.len() > 24 {
             assert_eq!(refused, Some(Refusal::Apart));
         }
-        if field == Field::HugeJump {
-            // Ahead it is taken, back it lies before the book's time.
-            assert!([None, Some(Refusal::Tick)].contains(&refused));
+        if field == Field::HugeJump && file.len() > 24 {
+            assert_eq!(refused, Some(Refusal::Tick));
         }
         numbers.extend(refused.map(Refusal::number));
     }

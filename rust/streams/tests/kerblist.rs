@@ -48,6 +48,12 @@ fn kind(text: &str) -> String {
     }
 }
 
+/// How many digits the open slide has, which ends the first line.
+fn digits(text: &str) -> usize {
+    let slide = text.lines().next().and_then(|line| line.rsplit(' ').next());
+    slide.map_or(0, str::len)
+}
+
 #[test]
 fn kerblist_prints_what_the_oracle_prints() {
     let mut files = edge_files();
@@ -61,11 +67,15 @@ fn kerblist_prints_what_the_oracle_prints() {
         files.push(file);
     }
     let mut seen = BTreeMap::new();
+    let mut most_digits = 0;
     for file in &files {
         let (text, status) = kerblist(file);
         assert_eq!(text, listing(file), "a file of {} bytes", file.len());
         let wanted = if kind(&text) == "listed" { 0 } else { 2 };
         assert_eq!(status, Some(wanted), "{}", text);
+        if wanted == 0 {
+            most_digits = most_digits.max(digits(&text));
+        }
         *seen.entry(kind(&text)).or_insert(0) += 1;
     }
     println!("{} files: {:?}", files.len(), seen);
@@ -81,6 +91,8 @@ fn kerblist_prints_what_the_oracle_prints() {
     ] {
         assert!(seen.contains_key(wanted), "no file was {}", wanted);
     }
+    // A slide that no single turn of the counter has.
+    assert!(most_digits > 10, "{} digits at most", most_digits);
 }
 
 /// A line of a shell, in the repository's folder: its status, standard output and standard error.
@@ -163,7 +175,8 @@ fn kerblist_answers() {
     );
 
     let record = shell("./kerblist samples/tick_before_the_time.kerb");
-    let words = "refused 4 at record 2: the tick is before the book's time\n";
+    let words = "refused 4 at record 2: the tick is before the book's time, or 2,147,483,648 or more after it, which looks \
+                 the same; or the total has run out\n";
     assert_eq!(
         record,
         (Some(2), "refused 4 2\n".to_string(), words.to_string())

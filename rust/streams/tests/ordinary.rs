@@ -1,6 +1,6 @@
 //! The streams link touching cells and keep their ticks within a hop of the book's
-//! time. What is none of that is in the streams that are named for it, and in no
-//! other.
+//! time, as the counter goes round. What is none of that is in the streams that are
+//! named for it, and in no other.
 
 use oracle::{is_cell, read, record, Book, LOG_PLACES};
 use streams::files::{edge_files, every_field, valid_file, Field, FIELDS};

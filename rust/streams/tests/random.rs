@@ -1,6 +1,6 @@
 //! The random streams: the same for a seed, and wide enough.
 
-use oracle::{touch, Book, LOG_PLACES};
+use oracle::{touch, Book, LOG_PLACES, TURN};
 use std::collections::{BTreeMap, BTreeSet};
 use streams::{ask, Answer, Call, Kind, Random};
 
@@ -88,7 +88,8 @@ fn refusals_come_together_so_that_their_order_shows() {
             let short = *log_places < LOG_PLACES;
             let bad = *a > 1023 || *b > 1023;
             let apart = !bad && !touch(*a, *b);
-            together.insert((short, bad, apart, *tick < history.time));
+            let old = history.total_at(*tick).is_err();
+            together.insert((short, bad, apart, old));
         }
         ask(&mut book, &call);
     }
@@ -109,7 +110,11 @@ struct Seen {
     lamps: BTreeMap<(bool, bool), u32>,
     jumps_over_slides: u32,
     jumps_over_chunks: u32,
-    last_ticks: u32,
+    /// Calls that passed the end of the counter, and in how many turns.
+    passes: u32,
+    turns: BTreeSet<u128>,
+    /// Calls with an end of the counter in the window.
+    ends_in_window: u32,
     huge_slides: u32,
     repeats: u32,
     most_links_in_window: usize,
@@ -119,7 +124,8 @@ fn look(seed: u64, kind: Kind, calls: usize) -> Seen {
     let mut seen = Seen::default();
     let mut book = Book::new();
     for call in Random::new(seed, kind).take(calls) {
-        let slide_before = book.history.as_ref().map(|history| history.open_slide());
+        let before = book.history.as_ref();
+        let before = before.map(|history| (history.open_slide(), history.time));
         let answer = ask(&mut book, &call);
         let history = match &book.history {
             Some(history) => history,
@@ -157,11 +163,15 @@ fn look(seed: u64, kind: Kind, calls: usize) -> Seen {
             _ => {}
         }
         let slide = history.open_slide();
-        let before = slide_before.unwrap_or(0);
+        let (before, time) = before.expect("an opening goes before");
         seen.jumps_over_slides += u32::from(slide > before + 1);
         seen.jumps_over_chunks += u32::from(slide / n > before / n + 1);
-        seen.last_ticks += u32::from(history.time > u32::MAX - 3);
-        seen.huge_slides += u32::from(slide > u64::from(u32::MAX) - 50);
+        seen.passes += u32::from(history.time < time);
+        let turn = |total: u128| (u128::from(history.settings.t0) + total) / TURN;
+        seen.turns.insert(turn(history.total));
+        let oldest = u128::from(history.oldest_slide()) * u128::from(history.settings.b);
+        seen.ends_in_window += u32::from(turn(oldest) < turn(history.total));
+        seen.huge_slides += u32::from(slide >= 1 << 32);
     }
     seen
 }
@@ -169,7 +179,7 @@ fn look(seed: u64, kind: Kind, calls: usize) -> Seen {
 #[test]
 fn the_streams_are_wide_enough() {
     for kind in KINDS {
-        let seen = look(1, kind, 80_000);
+        let seen = look(2, kind, 80_000);
         let text = format!("{:?} {:?}", kind, seen);
         assert_eq!(seen.widths.len(), 16, "{}", text);
         assert_eq!(seen.mountings.len(), 2, "{}", text);
@@ -181,7 +191,9 @@ fn the_streams_are_wide_enough() {
         assert!(seen.lamps.values().all(|&times| times > 20), "{}", text);
         assert!(seen.jumps_over_slides > 200, "{}", text);
         assert!(seen.jumps_over_chunks > 80, "{}", text);
-        assert!(seen.last_ticks > 100 && seen.huge_slides > 100, "{}", text);
+        assert!(seen.passes > 100 && seen.turns.len() >= 5, "{}", text);
+        assert!(seen.ends_in_window > 1_000, "{}", text);
+        assert!(seen.huge_slides > 500, "{}", text);
         assert!(seen.repeats > 1_000, "{}", text);
         assert!(seen.most_links_in_window > 1_000, "{}", text);
     }

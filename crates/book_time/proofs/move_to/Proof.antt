@@ -1,13 +1,13 @@
 -- `book_time::move_to` meets its contract: each way out is one case of the step (proofs/Moves.antt).
 use mathlib.Core.List.{[]}
-use Prim.Native.Nat.{ℕ, _+_, _<_}
+use Prim.Native.Nat.{ℕ, _+_, _-_, _≤_}
 use mathlib.Core.Path.{_≡_, sym, _∙_, ap}
 use native.Mathlib.Omega.{arith}
-use native.Mathlib.Nat.{div-le-self}
+use mathlib.Core.Logic.{_↔_}
 use borrow.Author.Needs.{needs}
 use Rattle.cells.specs.declared.Fitting.{Fitting}
-use Rattle.slides.specs.Clock.{slideLimit, openSlide, chunkOf}
-use Rattle.slides.proofs.Slides.{open-fits}
+use Rattle.slides.specs.Clock.{chunkOf}
+use Rattle.slides.proofs.Slides.{chunk-later}
 use Rattle.book_state.specs.declared.Book.{Book}
 use Rattle.book_state.specs.Order.{bookOf}
 use Rattle.book_time.specs.Time.{cleared, emptied, stayed, turned}
@@ -30,9 +30,14 @@ before c fitting = c .before .before .before .chunk .ensures ∙ ap (chunkOf (en
 after : (c : tie.After-advanced) (fitting : Fitting) → c .before .chunk2 .result ≡ chunkAfter (book (entry c) fitting) (entry c .args .tick)
 after c fitting = c .before .chunk2 .ensures ∙ ap (chunkOf (entry c .args .clock)) (c .before .before .slide .ensures)
 
--- a slide is below its limit
-small : (c : tie.After-advanced) → openSlide (entry c .args .clock) < slideLimit
-small c = open-fits (entry c .args .clock) (search needs)
+-- the second is not the earlier one; it is the next one exactly when it is 1 more
+later : (c : tie.After-advanced) → c .before .before .before .chunk .result ≤ c .before .chunk2 .result
+later c =
+    let none : Fitting = record { mounting = 0; pad = [] } in
+    omega (arith, before c none, after c none, chunk-later (entry c .args .clock) (entry c .args .tick))
+
+next : {x y : ℕ} → x ≤ y → (y - x ≡ 1) ↔ (y ≡ x + 1)
+next le = (λ e. omega (arith, le, e), λ e. omega (arith, e))
 
 open-slide-requires : tie.Need-open-slide-requires
 open-slide-requires c κs = search needs
@@ -63,11 +68,8 @@ freshen-requires c κs = search needs
 abbrev advanced-of : tie.After-freshen → tie.After-advanced
 advanced-of c = c .before .before .before .before .before .before .before
 
-add-if2 : tie.Need-add-if2
-add-if2 c =
-    let d = advanced-of c in
-    let clock = entry d .args .clock in
-    omega (arith, before d (record { mounting = 0; pad = [] }), div-le-self (openSlide clock) (clock .n), small d)
+sub-if2 : tie.Need-sub-if2
+sub-if2 c = later (advanced-of c)
 
 returns-2 : tie.Need-returns-2
 returns-2 c fitting =
@@ -75,7 +77,7 @@ returns-2 c fitting =
     let d = advanced-of fresh in
     emptied-made _ fitting (fresh .freshen .ensures)
     ∙ ap (λ clock. emptied clock fitting) (d .advanced .ensures)
-    ∙ sym (moved-further (book (entry d) fitting) (entry d .args .log .now) _ (λ e. fresh .before .before .before .before .before .before .if1 .left (after d fitting ∙ e ∙ sym (before d fitting))) (λ e. c .before .if2 .taken (after d fitting ∙ e ∙ sym (ap (λ q. q + 1) (before d fitting)))))
+    ∙ sym (moved-further (book (entry d) fitting) (entry d .args .log .now) _ (λ e. fresh .before .before .before .before .before .before .if1 .left (after d fitting ∙ e ∙ sym (before d fitting))) (λ e. c .before .if2 .taken (next (later d) .1 (after d fitting ∙ e ∙ sym (ap (λ q. q + 1) (before d fitting))))))
 
 unite-chunk-requires : tie.Need-unite-chunk-requires
 unite-chunk-requires c κs =
@@ -99,7 +101,7 @@ returns-3 c fitting =
     (united .unite-chunk .ensures ∙ backward-built b (entry d .args .log .now) (before d fitting) (f .backward-parents) (f .backward-sizes) (f .backward-labels))
     (c .clear-half .ensures ∙ ap (λ half. cleared half (b .counts)) (other-half (before d fitting)))
     ∙ ap (turned b (entry d .args .log .now)) (d .advanced .ensures)
-    ∙ sym (moved-next _ _ _ (sym (after d fitting) ∙ united .before .before .before .before .before .if2 .left ∙ ap (λ q. q + 1) (before d fitting)))
+    ∙ sym (moved-next _ _ _ (sym (after d fitting) ∙ next (later d) .0 (united .before .before .before .before .before .if2 .left) ∙ ap (λ q. q + 1) (before d fitting)))
 
 pub move-to-spec : {M : Type 1} → statement M
 move-to-spec =
@@ -112,7 +114,7 @@ move-to-spec =
     advanced-requires
     returns
     freshen-requires
-    add-if2
+    sub-if2
     returns-2
     unite-chunk-requires
     sub-clear-half

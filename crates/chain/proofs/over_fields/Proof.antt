@@ -10,7 +10,7 @@ use Rattle.numbers.specs.Checks.{has}
 use Rattle.book_state.specs.Arrays.{cells}
 use Rattle.book_state.specs.Numbers.{logPlaces, areCells}
 use Rattle.numbers.proofs.Checks.{has-length}
-use Rattle.book_state.proofs.Checks.{readable, two-cells}
+use Rattle.book_state.proofs.Checks.{in-order-range, readable, two-cells}
 use Rattle.chain.proofs.ChainCall.{call-refused, out-of-order, short-log, short-chain, no-cells, call-answered}
 use borrow.Author.Needs.{needs}
 use Rattle.chain.proofs.over_fields.Statement.{statement}
@@ -84,6 +84,7 @@ answer-requires c κs =
     let second = third .before in
     record {
       readable = readable _ _ (ordered (second .before)) (room second);
+      total-most = in-order-range _ (ordered (second .before)) .total-most;
       chain-room = omega (arith, third .if3 .left);
       one-cell = both fourth .0;
       other-cell = both fourth .1;

@@ -4,7 +4,7 @@ use lib.Dec.{leb}
 use mathlib.Core.Path.{_≡_}
 use borrow.Author.Tests.{le-leb, lt-leb}
 use Rattle.slides.specs.declared.Clock.{Clock}
-use Rattle.slides.specs.Clock.{clockInRange}
+use Rattle.slides.specs.Clock.{totalMost, clockInRange}
 use Rattle.slides.proofs.in_range.Statement.{statement}
 use Rattle.slides.proofs.in_range.Tie as tie
 
@@ -21,7 +21,7 @@ unfolding clockInRange
 returns-3 c = simp (le-leb _ _ (c .before .before .if1 .left), le-leb _ _ (c .before .if2 .left), lt-leb _ _ (c .if3 .taken))
 
 -- the first three tests passed: the fourth decides
-fourth : (clock : Clock) → 1 ≤ clock .n → clock .n ≤ 16 → 1 ≤ clock .b → leb (clock .t0) (clock .time) ≡ clockInRange clock
+fourth : (clock : Clock) → 1 ≤ clock .n → clock .n ≤ 16 → 1 ≤ clock .b → leb (clock .total) totalMost ≡ clockInRange clock
 unfolding clockInRange
 fourth clock w v l = simp (le-leb _ _ w, le-leb _ _ v, le-leb _ _ l)
 

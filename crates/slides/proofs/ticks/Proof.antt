@@ -1,60 +1,53 @@
--- `slides::ticks` meets its contract: a slide has ticks exactly when it is not after that of the last tick (Slides, `begins`).
-use Prim.Native.Nat.{ℕ, _+_, _-_, _<_, min}
-use mathlib.Core.Path.{_≡_, ap}
-use mathlib.Core.Bool.{true}
-use native.Mathlib.Nat.{div-le-self}
-use native.Mathlib.Omega.{arith}
+-- `slides::ticks` meets its contract: some total reaches a slide exactly when it is not after the slide of the largest total (Slides, `begins`).
 use borrow.Author.Needs.{needs}
-use borrow.Author.Tests.{lt-ltb, le-ltb}
-use Rattle.slides.specs.Clock.{tickLimit, firstTick, ticksIf, ticksOf}
+use Prim.Native.Nat.{ℕ, _+_, _-_, _*_, _≤_, _<_, min}
+use mathlib.Core.Path.{_≡_, ap, _∙_}
+use mathlib.Core.Bool.{true, false}
+use borrow.Author.Tests.{lt-ltb, le-ltb, le-leb, lt-leb}
+use native.Mathlib.Nat.{pos-of-ne-zero}
+use native.Mathlib.Omega.{arith}
+use Rattle.slides.specs.Clock.{totalMost, firstTotal, ticksIf, ticksOf}
 use Rattle.slides.specs.declared.Clock.{Clock}
 use Rattle.slides.proofs.Slides.{begins, never-begins}
 use Rattle.slides.proofs.ticks.Statement.{statement}
 use Rattle.slides.proofs.ticks.Tie as tie
 
 -- a slide that has ticks
-has-ticks : (clock : Clock) (slide last : ℕ) → 0 < clock .b → firstTick clock slide < tickLimit → last ≡ min (firstTick clock slide + (clock .b - 1)) (tickLimit - 1)
-    → record { first = firstTick clock slide; last = last; exists = true } ≡ ticksOf clock slide
-unfolding ticksIf
-has-ticks clock slide last some there e = rw (lt-ltb _ _ some, lt-ltb _ _ there) (ap (λ l. record { first = firstTick clock slide; last = l; exists = true }) e)
+has-ticks : (clock : Clock) (slide last : ℕ) → 0 < clock .b → firstTotal clock slide ≤ totalMost → last ≡ min (firstTotal clock slide + (clock .b - 1)) totalMost
+    → ticksIf true (clock .t0) (firstTotal clock slide) last ≡ ticksOf clock slide
+has-ticks clock slide last some there e = rw (lt-ltb _ _ some, le-leb _ _ there) (ap (ticksIf true (clock .t0) (firstTotal clock slide)) e)
 
-t0-fits : (c : tie.Start) → c .args .clock .t0 < tickLimit
-t0-fits c = omega arith
+cast-b : tie.Need-cast-b
+cast-b c = search needs
 
-some : (c : tie.Else1) → 0 < c .before .args .clock .b
-some c = omega (arith, c .if1 .left)
+no-ticks-requires : tie.Need-no-ticks-requires
+no-ticks-requires c κs = search needs
 
 returns : tie.Need-returns
 unfolding ticksIf
-returns c = rw (c .if1 .taken)
-
-sub-latest : tie.Need-sub-latest
-sub-latest c = search needs
+returns c = rw (c .before .if1 .taken) (c .no-ticks .ensures)
 
 div-latest : tie.Need-div-latest
 div-latest c = search needs
 
-cast-if2 : tie.Need-cast-if2
-cast-if2 c = record { fits = omega (arith, div-le-self (4294967295 - c .before .args .clock .t0) (c .before .args .clock .b)) }
+no-ticks-requires-2 : tie.Need-no-ticks-requires-2
+no-ticks-requires-2 c κs = search needs
 
 returns-2 : tie.Need-returns-2
 unfolding ticksIf
 returns-2 c =
-    let start = c .before .before in
-    rw (lt-ltb _ _ (some (c .before)), le-ltb _ _ (never-begins _ _ (start .args .slide) (some (c .before)) (t0-fits start) (c .if2 .taken)))
+    let at = c .before .before in
+    rw (lt-ltb _ _ (pos-of-ne-zero (at .if1 .left)), lt-leb _ _ (never-begins _ _ (pos-of-ne-zero (at .if1 .left)) (c .before .if2 .taken))) (c .no-ticks2 .ensures)
 
--- the first tick
-there : (c : tie.Else2) → firstTick (c .before .before .args .clock) (c .before .before .args .slide) < tickLimit
-there c = begins _ _ _ (some (c .before)) (t0-fits (c .before .before)) (c .if2 .left)
+-- the slide is of 1 tick or more, and some total reaches it
+some : (c : tie.Else2) → 0 < c .before .before .before .args .clock .b
+some c = pos-of-ne-zero (c .before .if1 .left)
 
-cast-first : tie.Need-cast-first
-cast-first c = record { fits = omega (arith, c .if2 .left, div-le-self (4294967295 - c .before .before .args .clock .t0) (c .before .before .args .clock .b)) }
+there : (c : tie.Else2) → (let args = c .before .before .before .args in firstTotal (args .clock) (args .slide) ≤ totalMost)
+there c = begins _ _ (some c) (c .if2 .left)
 
 mul-first : tie.Need-mul-first
-mul-first c = omega (arith, there c)
-
-add-first : tie.Need-add-first
-add-first c = omega (arith, there c)
+mul-first c = record { fits = omega (arith, there c) }
 
 sub-if3 : tie.Need-sub-if3
 sub-if3 c = omega (arith, there c)
@@ -62,33 +55,48 @@ sub-if3 c = omega (arith, there c)
 sub-if3-2 : tie.Need-sub-if3-2
 sub-if3-2 c = search needs
 
+ticks-between-requires : tie.Need-ticks-between-requires
+ticks-between-requires c κs = search needs
+
 returns-3 : tie.Need-returns-3
-returns-3 c = has-ticks (c .before .before .before .args .clock) (c .before .before .before .args .slide) _ (some (c .before .before)) (there (c .before)) (omega (arith, there (c .before), some (c .before .before), c .if3 .taken))
+returns-3 c =
+    let at = c .before .before in
+    let args = at .before .before .before .args in
+    c .ticks-between .ensures
+    ∙ has-ticks (args .clock) (args .slide) totalMost (some at) (there at) (omega (arith, there at, some at, c .before .if3 .taken))
 
-sub-t8 : tie.Need-sub-t8
-sub-t8 c = search needs
+sub-ticks-between : tie.Need-sub-ticks-between
+sub-ticks-between c = search needs
 
-add-t10 : tie.Need-add-t10
-add-t10 c = omega (arith, there (c .before), c .if3 .left)
+add-ticks-between : tie.Need-add-ticks-between
+add-ticks-between c = record { fits = omega (arith, there (c .before), c .if3 .left) }
+
+ticks-between-requires-2 : tie.Need-ticks-between-requires-2
+ticks-between-requires-2 c κs = search needs
 
 returns-4 : tie.Need-returns-4
-returns-4 c = has-ticks (c .before .before .before .args .clock) (c .before .before .before .args .slide) _ (some (c .before .before)) (there (c .before)) (omega (arith, there (c .before), some (c .before .before), c .if3 .left))
+returns-4 c =
+    let at = c .before .before in
+    let args = at .before .before .before .args in
+    c .ticks-between2 .ensures
+    ∙ has-ticks (args .clock) (args .slide) (firstTotal (args .clock) (args .slide) + (args .clock .b - 1)) (some at) (there at) (omega (arith, there at, some at, c .before .if3 .left))
 
 pub ticks-spec : {M : Type 1} → statement M
 ticks-spec =
     tie.close
     (tie.spec
+    cast-b
+    no-ticks-requires
     returns
-    sub-latest
     div-latest
-    cast-if2
+    no-ticks-requires-2
     returns-2
-    cast-first
     mul-first
-    add-first
     sub-if3
     sub-if3-2
+    ticks-between-requires
     returns-3
-    sub-t8
-    add-t10
+    sub-ticks-between
+    add-ticks-between
+    ticks-between-requires-2
     returns-4)

@@ -13,7 +13,7 @@ mod time;
 mod trail;
 
 use crate::any_book::{chain_refused, joined_refused, lamps_refused, lorry_cell};
-use crate::any_book::{of_cells, touch, AnyBook};
+use crate::any_book::{of_cells, touch, AnyBook, MOST_TOTAL};
 use crate::neighbours::Neighbours;
 use forest::{every, Forest, Labelled, CELLS};
 use kerb::calls::{ChainAnswer, Clock, JoinedAnswer, LampsAnswer};
@@ -43,7 +43,7 @@ impl<const CHECKED: bool, const BY_UNIONS: bool> Peer<CHECKED, BY_UNIONS> {
         let clock = &self.clock;
         (1..=16).contains(&clock.n)
             && 1 <= clock.b
-            && clock.t0 <= clock.time
+            && clock.total <= MOST_TOTAL
             && (1..=2).contains(&self.mounting)
             && every(&self.counts, |count| count <= LINKS)
             && self.forward.is_sound()
@@ -51,28 +51,27 @@ impl<const CHECKED: bool, const BY_UNIONS: bool> Peer<CHECKED, BY_UNIONS> {
             && every(&self.backward.label, |label| label < PLACES as u8)
     }
 
-    fn link_number(&self, tick: u32, one: u16, other: u16) -> u8 {
+    /// The total that the link's tick makes, or the number that it is refused with.
+    fn judged(&self, tick: u32, one: u16, other: u16) -> Result<u64, u8> {
         if CHECKED && !self.in_order() {
-            return 1;
+            return Err(1);
         }
         if self.log.len() < LOG_PLACES {
-            return 6;
+            return Err(6);
         }
         if CELLS as u16 <= one || CELLS as u16 <= other {
-            return 3;
+            return Err(3);
         }
         if !touch(one, other) {
-            return 14;
+            return Err(14);
         }
-        if tick < self.clock.time {
-            return 4;
-        }
-        let slide = self.slide(tick);
+        let total = self.total_at(tick).ok_or(4)?;
+        let slide = self.slide(total);
         let in_open_chunk = self.chunk(slide) == self.chunk(self.open_slide());
         if in_open_chunk && LINKS <= self.counts[self.spot(slide)] {
-            return 5;
+            return Err(5);
         }
-        0
+        Ok(total)
     }
 }
 
@@ -83,11 +82,11 @@ impl<const CHECKED: bool, const BY_UNIONS: bool> AnyBook for Peer<CHECKED, BY_UN
     fn opened(settings: Settings) -> Self {
         Peer {
             clock: Clock {
+                total: 0,
                 t0: settings.t0,
                 b: settings.b,
-                time: settings.t0,
                 n: settings.n,
-                pad: [0; 3],
+                pad: [0; 7],
             },
             mounting: settings.mounting.number(),
             counts: [0; 2 * PLACES],
@@ -98,13 +97,13 @@ impl<const CHECKED: bool, const BY_UNIONS: bool> AnyBook for Peer<CHECKED, BY_UN
     }
 
     fn link(&mut self, tick: u32, one: u16, other: u16) -> u8 {
-        let number = self.link_number(tick, one, other);
-        if number != 0 {
-            return number;
-        }
+        let total = match self.judged(tick, one, other) {
+            Ok(total) => total,
+            Err(number) => return number,
+        };
         let one = lorry_cell(self.mounting, one);
         let other = lorry_cell(self.mounting, other);
-        self.move_to(tick);
+        self.move_to(total);
         let spot = self.spot(self.open_slide());
         let count = self.counts[spot];
         let at = 2 * (usize::from(LINKS) * spot + usize::from(count));
@@ -122,10 +121,10 @@ impl<const CHECKED: bool, const BY_UNIONS: bool> AnyBook for Peer<CHECKED, BY_UN
         if self.log.len() < LOG_PLACES {
             return 6;
         }
-        if tick < self.clock.time {
+        let Some(total) = self.total_at(tick) else {
             return 4;
-        }
-        self.move_to(tick);
+        };
+        self.move_to(total);
         0
     }
 
@@ -209,6 +208,7 @@ mod tests {
     fn number_1_is_given_for_a_field_outside_its_range() {
         assert_eq!(number_after(|_| ()), 0);
         assert_eq!(number_after(|book| book.clock.n = 17), 1);
+        assert_eq!(number_after(|book| book.clock.total = MOST_TOTAL + 1), 1);
         assert_eq!(number_after(|book| book.mounting = 0), 1);
         assert_eq!(number_after(|book| book.counts[31] = 257), 1);
         assert_eq!(number_after(|book| book.forward.parent[1023] = 1024), 1);

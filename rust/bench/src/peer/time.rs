@@ -1,16 +1,24 @@
-//! Slides, chunks and places, and the step of time.
+//! The total, slides, chunks and places, and the step of time.
 
 use super::forest::{Forest, Labelled, CELLS};
 use super::scratch::Scratch;
 use super::{Peer, LINKS, PLACES};
+use crate::any_book::total_after;
+use kerb::calls::Clock;
 
 impl<const CHECKED: bool, const BY_UNIONS: bool> Peer<CHECKED, BY_UNIONS> {
-    pub fn slide(&self, tick: u32) -> u64 {
-        u64::from((tick - self.clock.t0) / self.clock.b)
+    /// The total that a tick makes; none where it is number 4.
+    pub fn total_at(&self, tick: u32) -> Option<u64> {
+        let Clock { total, t0, .. } = self.clock;
+        total_after(total, t0.wrapping_add(total as u32), tick)
+    }
+
+    pub fn slide(&self, total: u64) -> u64 {
+        total / u64::from(self.clock.b)
     }
 
     pub fn open_slide(&self) -> u64 {
-        self.slide(self.clock.time)
+        self.slide(self.clock.total)
     }
 
     pub fn chunk(&self, slide: u64) -> u64 {
@@ -28,10 +36,10 @@ impl<const CHECKED: bool, const BY_UNIONS: bool> Peer<CHECKED, BY_UNIONS> {
 
     /// The step of time: within a chunk nothing else changes; into the next chunk the backward forest is built from the chunk
     /// that ends; further, nothing is left.
-    pub fn move_to(&mut self, tick: u32) {
+    pub fn move_to(&mut self, total: u64) {
         let before = self.chunk(self.open_slide());
-        let after = self.chunk(self.slide(tick));
-        self.clock.time = tick;
+        let after = self.chunk(self.slide(total));
+        self.clock.total = total;
         if after == before {
             return;
         }

@@ -91,8 +91,8 @@ fn change(dice: &mut Dice, state: &mut State) {
         6 => book.fitting.mounting = 3 - book.fitting.mounting,
         7 => book.clock.n = dice.between(1, 16) as u8,
         8 => book.clock.b = draw_settings(dice).b,
-        9 => book.clock.time = draw_time(dice, settings_of(book)),
-        10 => book.clock.t0 = dice.below(u64::from(book.clock.time) + 1) as u32,
+        9 => book.clock.total = draw_total(dice, settings_of(book)),
+        10 => book.clock.t0 = dice.bits() as u32,
         11 => {
             book.clock.pad = draw_pad(dice);
             book.fitting.pad = draw_pad(dice);
@@ -121,9 +121,9 @@ fn in_range(dice: &mut Dice) -> Altered {
         backward_parent,
         counts: draw_counts(dice),
         clock: Clock {
+            total: draw_total(dice, settings),
             t0: settings.t0,
             b: settings.b,
-            time: draw_time(dice, settings),
             n: settings.n as u8,
             pad: draw_pad(dice),
         },
@@ -202,10 +202,7 @@ fn one_field_outside(dice: &mut Dice) -> Altered {
     let cell = dice.cell() as usize;
     match dice.below(10) {
         0 => book.clock.b = 0,
-        1 => {
-            book.clock.t0 = book.clock.t0.max(1);
-            book.clock.time = book.clock.t0 - 1;
-        }
+        1 => book.clock.total = draw_total_outside(dice),
         2 => book.clock.n = dice.pick(&[0, 17, 255]),
         3 => book.fitting.mounting = dice.pick(&[0, 3, 255]),
         4 => book.counts[dice.below(32) as usize] = dice.pick(&[257, 65_535]),
@@ -231,14 +228,14 @@ fn any_bytes(dice: &mut Dice) -> Altered {
         backward_label: [0; 1024].map(|_| any() as u8),
         fitting: Fitting {
             mounting: any() as u8,
-            pad: [0; 3].map(|_| any() as u8),
+            pad: [0; 7].map(|_| any() as u8),
         },
         clock: Clock {
             n: any() as u8,
-            pad: [0; 3].map(|_| any() as u8),
+            pad: [0; 7].map(|_| any() as u8),
             t0: dice.bits() as u32,
             b: dice.bits() as u32,
-            time: dice.bits() as u32,
+            total: dice.bits(),
         },
     };
     let log = (0..MOST_LOG_PLACES).map(|_| dice.bits() as u16).collect();

@@ -4,8 +4,8 @@
 use super::order::disorder;
 use super::said;
 use crate::state::State;
-use oracle::{Link, CHAIN_PLACES, LOG_PLACES};
-use streams::hops::{huge_jump, within_a_hop};
+use oracle::{Link, CHAIN_PLACES, LOG_PLACES, MOST_TOTAL};
+use streams::hops::{ahead, back, huge_jump};
 use streams::masks::draw_mask;
 use streams::touching::{far_cell, touching_cell};
 use streams::{draw_settings, Call, Dice, MOST_LOG_PLACES};
@@ -110,21 +110,26 @@ fn draw_log_places(dice: &mut Dice) -> usize {
 }
 
 /// The book's time, or a later tick of the slide, the chunk, the next chunk or
-/// one after it, within a hop; sometimes an earlier one, or a huge jump.
+/// one after it, within a hop; where the total is about to run out, mostly the last
+/// tick that it has room for or the next. Sometimes an earlier one, or a huge jump.
 fn draw_tick(dice: &mut Dice, state: &State) -> u32 {
     let clock = &state.book.clock;
-    let (n, b) = (u64::from(clock.n), u64::from(clock.b));
+    let time = said::time(clock);
+    let (n, b) = (u128::from(clock.n), u128::from(clock.b));
     if dice.one_in(30) {
-        return huge_jump(dice, clock.time);
+        return huge_jump(dice, time);
     }
-    let later = match dice.below(10) {
-        0 => return clock.time.saturating_sub(dice.between(1, 3) as u32),
+    let left = MOST_TOTAL.saturating_sub(clock.total.into());
+    if left <= n * b && dice.one_in(2) {
+        return ahead(time, left + u128::from(dice.below(2)));
+    }
+    let ticks = match dice.below(10) {
+        0 => return back(time, dice.between(1, 3).into()),
         1..=3 => 0,
-        4 => dice.below(b + 1),
-        5 | 6 => b * dice.below(n + 1),
+        4 => dice.below(u64::from(clock.b) + 1).into(),
+        5 | 6 => b * u128::from(dice.below(u64::from(clock.n) + 1)),
         7 | 8 => b * n,
-        _ => b * n * dice.between(1, 3),
+        _ => b * n * u128::from(dice.between(1, 3)),
     };
-    let tick = u64::from(clock.time) + later;
-    within_a_hop(clock.time, u32::try_from(tick).unwrap_or(clock.time))
+    ahead(time, ticks)
 }

@@ -2,7 +2,7 @@
 //! a cut that would exceed 10 steps.
 
 use kerb::RawBook;
-use oracle::CELLS;
+use oracle::{CELLS, MOST_TOTAL};
 
 /// Steps of a walk, at most.
 const MOST_STEPS: usize = 10;
@@ -10,7 +10,7 @@ const MOST_STEPS: usize = 10;
 /// All that can be out of order with a book.
 pub const REASONS: [&str; 14] = [
     "clock.b",
-    "clock.time",
+    "clock.total",
     "clock.n",
     "fitting.mounting",
     "counts",
@@ -35,7 +35,7 @@ fn field_outside(book: &RawBook) -> Option<&'static str> {
     let size = |&size: &u16| (1..=CELLS).contains(&u32::from(size));
     let in_range = [
         book.clock.b >= 1,
-        book.clock.time >= book.clock.t0,
+        u128::from(book.clock.total) <= MOST_TOTAL,
         (1..=16).contains(&book.clock.n),
         (1..=2).contains(&book.fitting.mounting),
         book.counts.iter().all(|&count| count <= 256),

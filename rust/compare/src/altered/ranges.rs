@@ -1,7 +1,7 @@
 //! The fields of a book drawn from their ranges, and a log for it. They need not
 //! agree with one another.
 
-use oracle::Settings;
+use oracle::{Settings, MOST_TOTAL, TURN};
 use streams::touching::patch;
 use streams::{Dice, MOST_LOG_PLACES};
 
@@ -78,11 +78,11 @@ pub fn draw_labels(dice: &mut Dice) -> [u8; 1024] {
 }
 
 /// Bytes that have no meaning: 0, as calls leave them, or any.
-pub fn draw_pad(dice: &mut Dice) -> [u8; 3] {
+pub fn draw_pad(dice: &mut Dice) -> [u8; 7] {
     if dice.one_in(2) {
-        [0; 3]
+        [0; 7]
     } else {
-        [0; 3].map(|_| dice.bits() as u8)
+        [0; 7].map(|_| dice.bits() as u8)
     }
 }
 
@@ -111,16 +111,28 @@ pub fn draw_log(dice: &mut Dice, cells: &[u32]) -> Vec<u16> {
     (0..MOST_LOG_PLACES).map(|_| entry()).collect()
 }
 
-/// A time in the first few chunks, near the last tick, or any.
-pub fn draw_time(dice: &mut Dice, settings: Settings) -> u32 {
-    let left = u64::from(u32::MAX - settings.t0);
+/// A total in the first few chunks, near a pass of the counter's end, at the limit or
+/// near it, or any.
+pub fn draw_total(dice: &mut Dice, settings: Settings) -> u64 {
+    let limit = MOST_TOTAL as u64;
+    let end = dice.between(1, 3) * TURN as u64 - u64::from(settings.t0);
     let chunks = 4 * u64::from(settings.n) * u64::from(settings.b);
-    let later = match dice.below(8) {
-        0 => left - dice.below(chunks).min(left),
-        1 => dice.below(left + 1),
-        _ => dice.below(chunks).min(left),
-    };
-    settings.t0 + later as u32
+    let few = dice.below(chunks);
+    match dice.below(12) {
+        0 | 1 => end.saturating_sub(few),
+        2 => limit - few,
+        3 => limit - dice.below(3),
+        4 => limit,
+        5 => dice.below(limit + 1),
+        _ => few,
+    }
+}
+
+/// A total outside its range.
+pub fn draw_total_outside(dice: &mut Dice) -> u64 {
+    let first = MOST_TOTAL as u64 + 1;
+    let any = first + dice.below(first);
+    dice.pick(&[first, first + 1, any, u64::MAX - 1, u64::MAX])
 }
 
 /// A few cells that hang together, so that links and steps meet, or all.

@@ -4,11 +4,13 @@
 
 use super::order::disorder;
 use crate::fields::{book_of, labels_of, log_place, narrow, settings_of, spot, HALF};
+use crate::library::Told;
 use crate::state::State;
+use kerb::calls::{Clock, SlideAnswer};
 use kerb::RawBook;
 use oracle::{
-    in_lorrys_numbers, is_cell, number, touch, Chain, Forest, History, Joined, Lamps, Link, Linked,
-    Refusal, Settings, LINKS_PER_SLIDE, LOG_PLACES,
+    in_lorrys_numbers, is_cell, number, tick_after, touch, Chain, Forest, History, Joined, Lamps,
+    Link, Linked, Refusal, Settings, LINKS_PER_SLIDE, LOG_PLACES, MOST_TOTAL,
 };
 use streams::{lamps_answer, lent_places, Answer, Call};
 
@@ -73,7 +75,7 @@ pub fn ask(state: &mut State, call: &Call) -> Answer {
 fn opening(state: &mut State, settings: Settings, log_places: usize) -> Result<(), Refusal> {
     settings.check()?;
     log_is_long(log_places)?;
-    state.book = empty_book(settings, settings.t0);
+    state.book = empty_book(settings, 0);
     state.log[..LOG_PLACES].fill(0);
     Ok(())
 }
@@ -83,12 +85,12 @@ fn link(state: &mut State, tick: u32, cells: [u32; 2], log_places: usize) -> Res
     log_is_long(log_places)?;
     are_cells(cells)?;
     refuse_if(!touch(cells[0], cells[1]), Refusal::Apart)?;
-    not_before_time(&state.book, tick)?;
+    let total = total_at(&state.book, tick)?;
     refuse_if(
-        held(&state.book, tick) >= LINKS_PER_SLIDE,
+        held(&state.book, total) >= LINKS_PER_SLIDE,
         Refusal::SlideFull,
     )?;
-    move_time(state, tick);
+    move_time(state, total);
     let mounting = u32::from(state.book.fitting.mounting);
     store(state, cells.map(|cell| in_lorrys_numbers(cell, mounting)));
     Ok(())
@@ -97,8 +99,8 @@ fn link(state: &mut State, tick: u32, cells: [u32; 2], log_places: usize) -> Res
 fn clock(state: &mut State, tick: u32, log_places: usize) -> Result<(), Refusal> {
     in_order(&state.book)?;
     log_is_long(log_places)?;
-    not_before_time(&state.book, tick)?;
-    move_time(state, tick);
+    let total = total_at(&state.book, tick)?;
+    move_time(state, total);
     Ok(())
 }
 
@@ -106,8 +108,7 @@ fn clock(state: &mut State, tick: u32, log_places: usize) -> Result<(), Refusal>
 fn joined(state: &State, cells: [u32; 2]) -> Result<Joined, Refusal> {
     in_order(&state.book)?;
     are_cells(cells)?;
-    let (_, open_place) = chunk_and_place(&state.book, state.book.clock.time);
-    let cut = open_place + 1;
+    let cut = open_place(&state.book) + 1;
     let (backward, forward) = (backward_forest(&state.book), forward_forest(&state.book));
     let walks = cells.map(|cell| backward.walk_at_cut(cell, cut).steps + forward.walk(cell).steps);
     let linked = Linked::by(&parent_steps(&state.book));
@@ -156,25 +157,80 @@ fn are_cells(cells: [u32; 2]) -> Result<(), Refusal> {
     refuse_if(!cells.iter().all(|&cell| is_cell(cell)), Refusal::Cell)
 }
 
-fn not_before_time(book: &RawBook, tick: u32) -> Result<(), Refusal> {
-    refuse_if(tick < book.clock.time, Refusal::Tick)
+// The questions about the clock, as its numbers say, in order or not.
+
+/// The time: so many ticks after T0 as the total says.
+pub fn time(clock: &Clock) -> u32 {
+    tick_after(clock.t0, clock.total.into())
+}
+
+/// The open slide; 0 for B 0.
+fn open_slide(clock: &Clock) -> u64 {
+    clock.total.checked_div(clock.b.into()).unwrap_or(0)
+}
+
+/// The two together.
+pub fn told(book: &RawBook) -> Told {
+    Told {
+        time: time(&book.clock),
+        open_slide: open_slide(&book.clock),
+    }
+}
+
+/// The totals of a slide, as far as totals go, and the ticks at the first and at the
+/// last of them; none for B 0, and where the slide begins beyond the last total.
+pub fn slide_ticks(clock: &Clock, slide: u64) -> SlideAnswer {
+    let b = u128::from(clock.b);
+    let first = u128::from(slide) * b;
+    if b == 0 || first > MOST_TOTAL {
+        return SlideAnswer {
+            first_total: 0,
+            last_total: 0,
+            first: 0,
+            last: 0,
+            exists: false,
+        };
+    }
+    let last = (first + b - 1).min(MOST_TOTAL);
+    SlideAnswer {
+        first_total: first as u64,
+        last_total: last as u64,
+        first: tick_after(clock.t0, first),
+        last: tick_after(clock.t0, last),
+        exists: true,
+    }
 }
 
 // Slides, chunks and places, by the fields. The book is in order.
 
-/// The chunk and the place of a tick's slide.
-pub fn chunk_and_place(book: &RawBook, tick: u32) -> (u64, u64) {
-    let slide = settings_of(book).slide_of(tick);
+/// The total that a tick makes, or number 4.
+pub fn total_at(book: &RawBook, tick: u32) -> Result<u64, Refusal> {
+    let history = History::at_total(settings_of(book), book.clock.total.into());
+    Ok(history.total_at(tick)? as u64)
+}
+
+/// The chunk and the place of a total's slide.
+pub fn chunk_and_place(book: &RawBook, total: u64) -> (u64, u64) {
+    let slide = settings_of(book).slide_of(total.into());
     let n = u64::from(book.clock.n);
     (slide / n, slide % n)
 }
 
-/// How many links the slide of a tick holds already: what is counted at its
+/// The open chunk.
+pub fn open_chunk(book: &RawBook) -> u64 {
+    chunk_and_place(book, book.clock.total).0
+}
+
+/// The place of the open slide.
+pub fn open_place(book: &RawBook) -> u64 {
+    chunk_and_place(book, book.clock.total).1
+}
+
+/// How many links the slide of a total holds already: what is counted at its
 /// place, where it is of the open chunk; else none.
-pub fn held(book: &RawBook, tick: u32) -> usize {
-    let (open_chunk, _) = chunk_and_place(book, book.clock.time);
-    let (chunk, place) = chunk_and_place(book, tick);
-    if chunk == open_chunk {
+pub fn held(book: &RawBook, total: u64) -> usize {
+    let (chunk, place) = chunk_and_place(book, total);
+    if chunk == open_chunk(book) {
         usize::from(book.counts[spot(chunk, place)])
     } else {
         0
@@ -184,28 +240,24 @@ pub fn held(book: &RawBook, tick: u32) -> usize {
 // What changes the state.
 
 /// A book with both forests fresh and all counts 0.
-fn empty_book(settings: Settings, time: u32) -> RawBook {
-    book_of(&History {
-        settings,
-        time,
-        links: Vec::new(),
-    })
+fn empty_book(settings: Settings, total: u64) -> RawBook {
+    book_of(&History::at_total(settings, total.into()))
 }
 
-/// Within the chunk nothing changes but the time. The pad bytes never do: an
+/// Within the chunk nothing changes but the total. The pad bytes never do: an
 /// opening alone makes them 0.
-fn move_time(state: &mut State, tick: u32) {
-    let (before, _) = chunk_and_place(&state.book, state.book.clock.time);
-    let (after, _) = chunk_and_place(&state.book, tick);
+fn move_time(state: &mut State, total: u64) {
+    let before = open_chunk(&state.book);
+    let (after, _) = chunk_and_place(&state.book, total);
     if after == before + 1 {
         turn(state, before);
     } else if after > before {
         let (of_clock, of_fitting) = (state.book.clock.pad, state.book.fitting.pad);
-        state.book = empty_book(settings_of(&state.book), tick);
+        state.book = empty_book(settings_of(&state.book), total);
         state.book.clock.pad = of_clock;
         state.book.fitting.pad = of_fitting;
     }
-    state.book.clock.time = tick;
+    state.book.clock.total = total;
 }
 
 /// Into the next chunk: the backward forest is built from the log, the forward
@@ -230,7 +282,7 @@ fn turn(state: &mut State, ending: u64) {
 
 /// A link of two of the lorry's cells, in the open slide.
 fn store(state: &mut State, cells: [u32; 2]) {
-    let (chunk, place) = chunk_and_place(&state.book, state.book.clock.time);
+    let (chunk, place) = chunk_and_place(&state.book, state.book.clock.total);
     let spot = spot(chunk, place);
     let at = log_place(spot, usize::from(state.book.counts[spot]));
     state.log[at] = cells[0] as u16;
@@ -266,11 +318,7 @@ fn logged_book(state: &State) -> oracle::Book {
 /// The window's slides, as far as they exist, with the links that the log holds.
 pub fn logged_window(state: &State) -> History {
     let settings = settings_of(&state.book);
-    let mut history = History {
-        settings,
-        time: state.book.clock.time,
-        links: Vec::new(),
-    };
+    let mut history = History::at_total(settings, state.book.clock.total.into());
     let n = u64::from(settings.n);
     for slide in history.oldest_slide()..=history.open_slide() {
         for (a, b) in logged_links(state, spot(slide / n, slide % n)) {
@@ -298,9 +346,9 @@ fn backward_forest(book: &RawBook) -> Forest {
 
 /// The parent steps of the two forests, the backward ones at the cut, as links.
 pub fn parent_steps(book: &RawBook) -> Vec<Link> {
-    let (_, open_place) = chunk_and_place(book, book.clock.time);
+    let cut = open_place(book) + 1;
     let mut steps = steps_of(&forward_forest(book), 0);
-    steps.extend(steps_of(&backward_forest(book), open_place + 1));
+    steps.extend(steps_of(&backward_forest(book), cut));
     steps
 }
 

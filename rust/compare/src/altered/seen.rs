@@ -5,10 +5,13 @@ use super::order::{disorder, REASONS};
 use super::said;
 use crate::fields::spot;
 use crate::lamps::{lamps_of, lit, LIT};
-use crate::seen::{count_apart, hop, number_row, APART, HOPS, LINKS_OF_CHAIN};
+use crate::seen::{count_apart, number_row, APART, LINKS_OF_CHAIN};
 use crate::state::State;
 use crate::tally::{names, number, span, Spans, Tally, NUMBERS};
-use oracle::{touch, Book, CellSet, Linked, CHAIN_PLACES, LOG_PLACES};
+use crate::ticks;
+use oracle::{steps_to, touch, Book, CellSet, Linked, Refusal};
+use oracle::{CHAIN_PLACES, LOG_PLACES, MOST_TOTAL};
+use streams::hops::distance;
 use streams::{lamps_answer, Answer, Call};
 
 const STEPS: &Spans = &[
@@ -18,13 +21,37 @@ const STEPS: &Spans = &[
     (20, "20 and more"),
 ];
 
+/// The largest total that is in order.
+const LIMIT: u64 = MOST_TOTAL as u64;
+
+/// Where the total of a book stands.
+const TOTALS: &Spans = &[
+    (0, "below 2^32"),
+    (1 << 32, "2^32 and more"),
+    (LIMIT - (1 << 32), "the last 2^32"),
+    (LIMIT, "2^63 - 1"),
+    (LIMIT + 1, "2^63"),
+    (LIMIT + 2, "beyond"),
+    (u64::MAX, "2^64 - 1"),
+];
+
+/// What can happen to a tick where the total stands at its limit.
+const AT_THE_LIMIT: [&str; 3] = [
+    "the same tick, taken",
+    "the next tick, refused",
+    "another tick, refused",
+];
+
 /// By what link a lamp can be lit.
 const LIT_BY: [&str; 2] = ["with another cell", "with itself alone"];
 
 /// The rows that [`count`] and [`count_book`] fill.
 pub fn tally() -> Tally {
+    let mut number_4 = ticks::not_later();
+    number_4.push("the total has run out");
     Tally::of(&[
         ("book", &KINDS),
+        ("its total", &names(TOTALS)),
         ("at first", &["in order", "not in order"]),
         ("its pad bytes", &["0", "others"]),
         ("number 1 by", &REASONS),
@@ -38,7 +65,10 @@ pub fn tally() -> Tally {
             "time moved",
             &["within the chunk", "to the next", "over chunks"],
         ),
-        ("ticks moved", &HOPS),
+        ("ticks moved", &ticks::moved()),
+        ("total afterwards", &["below its limit", "at its limit"]),
+        ("tick of number 4", &number_4),
+        ("the total at its limit", &AT_THE_LIMIT),
         ("cells of number 14", &APART),
         (
             "link's slide, before",
@@ -75,8 +105,9 @@ pub fn count_book(tally: &mut Tally, kind: &str, state: &State) {
     let in_order = disorder(&state.book).is_none();
     let order = if in_order { "in order" } else { "not in order" };
     tally.count("at first", order);
+    tally.count("its total", span(TOTALS, state.book.clock.total));
     let pads = [state.book.clock.pad, state.book.fitting.pad];
-    let zero = pads == [[0; 3]; 2];
+    let zero = pads == [[0; 7]; 2];
     tally.count("its pad bytes", if zero { "0" } else { "others" });
 }
 
@@ -84,6 +115,9 @@ pub fn count_book(tally: &mut Tally, kind: &str, state: &State) {
 pub fn count(tally: &mut Tally, before: &State, after: &State, call: &Call, answer: &Answer) {
     tally.count(number_row(call), number(answer.number()));
     count_apart(tally, call, answer);
+    if let Call::Link { tick, .. } | Call::Clock { tick, .. } = call {
+        count_tick(tally, before, *tick, answer.number());
+    }
     match answer.number() {
         0 => count_done(tally, before, after, call, answer),
         1 => tally.count("number 1 by", disorder(&before.book).expect("a reason")),
@@ -93,9 +127,9 @@ pub fn count(tally: &mut Tally, before: &State, after: &State, call: &Call, answ
 
 fn count_done(tally: &mut Tally, before: &State, after: &State, call: &Call, answer: &Answer) {
     match (call, answer) {
-        (Call::Link { tick, .. }, _) => {
-            count_time(tally, before, *tick);
-            tally.count("link's slide, before", slide_before(before, *tick));
+        (Call::Link { .. }, _) => {
+            count_time(tally, before, after);
+            tally.count("link's slide, before", slide_before(before, after));
             let order = match disorder(&after.book) {
                 None => "still in order",
                 Some("forward_size") => "a size over 1,024",
@@ -103,7 +137,7 @@ fn count_done(tally: &mut Tally, before: &State, after: &State, call: &Call, ans
             };
             tally.count("after a link", order);
         }
-        (Call::Clock { tick, .. }, _) => count_time(tally, before, *tick),
+        (Call::Clock { .. }, _) => count_time(tally, before, after),
         (Call::Joined { first, second }, Answer::Joined { joined, steps, .. })
             if first != second =>
         {
@@ -128,25 +162,54 @@ fn count_done(tally: &mut Tally, before: &State, after: &State, call: &Call, ans
     }
 }
 
-fn count_time(tally: &mut Tally, before: &State, tick: u32) {
-    let (open, _) = said::chunk_and_place(&before.book, before.book.clock.time);
-    let (chunk, _) = said::chunk_and_place(&before.book, tick);
-    let moved = match chunk - open {
+/// A tick that was taken, or refused with 4.
+fn count_tick(tally: &mut Tally, before: &State, tick: u32, given: u32) {
+    let clock = &before.book.clock;
+    let time = said::time(clock);
+    let refused = given == Refusal::Tick.number();
+    if refused && steps_to(time, tick).is_some() {
+        tally.count("tick of number 4", "the total has run out");
+    } else if refused {
+        ticks::count_not_later(tally, time, tick);
+    }
+    if clock.total == LIMIT && (refused || given == 0) {
+        let class = match (refused, distance(time, tick)) {
+            (false, 0) => AT_THE_LIMIT[0],
+            (true, 1) => AT_THE_LIMIT[1],
+            (true, _) => AT_THE_LIMIT[2],
+            (false, _) => unreachable!("a total beyond its limit"),
+        };
+        tally.count("the total at its limit", class);
+    }
+}
+
+fn count_time(tally: &mut Tally, before: &State, after: &State) {
+    let open = said::open_chunk(&before.book);
+    let moved = match said::open_chunk(&after.book) - open {
         0 => "within the chunk",
         1 => "to the next",
         _ => "over chunks",
     };
     tally.count("time moved", moved);
-    tally.count("ticks moved", hop(before.book.clock.time, tick));
+    let times = [before, after].map(|of| said::time(&of.book.clock));
+    ticks::count_moved(tally, times[0], times[1]);
+    let class = if after.book.clock.total == LIMIT {
+        "at its limit"
+    } else {
+        "below its limit"
+    };
+    tally.count("total afterwards", class);
 }
 
-fn slide_before(before: &State, tick: u32) -> &'static str {
-    let open = said::chunk_and_place(&before.book, before.book.clock.time);
-    let link = said::chunk_and_place(&before.book, tick);
+/// What the slide of a link was before it; it is open after it.
+fn slide_before(before: &State, after: &State) -> &'static str {
+    let total = after.book.clock.total;
+    let open = said::chunk_and_place(&before.book, before.book.clock.total);
+    let link = said::chunk_and_place(&before.book, total);
     match (
         link.0 == open.0,
         link.1 == open.1,
-        said::held(&before.book, tick),
+        said::held(&before.book, total),
     ) {
         (false, _, _) => "of a later chunk",
         (true, true, 0) => "open, empty",
@@ -157,8 +220,8 @@ fn slide_before(before: &State, tick: u32) -> &'static str {
 }
 
 fn count_window(tally: &mut Tally, state: &State) {
-    let (chunk, _) = said::chunk_and_place(&state.book, state.book.clock.time);
-    let chunk = if chunk == 0 { "0" } else { "a later one" };
+    let first = said::open_chunk(&state.book) == 0;
+    let chunk = if first { "0" } else { "a later one" };
     tally.count("chain, in chunk", chunk);
     let window = said::logged_window(state);
     let spots = (window.oldest_slide()..=window.open_slide())

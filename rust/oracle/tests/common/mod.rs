@@ -1,7 +1,8 @@
 //! Helpers of the tests: shorter calls with buffers that are long enough.
 //!
-//! Links are of cells that touch and ticks less than 2^31 from the book's time, but
-//! in `far_self_and_huge.rs`. The four cells 1, 2, 65 and 66 touch one another.
+//! Links are of cells that touch and ticks less than 2^31 ahead of the book's time or
+//! a little back, but in `far_self_and_huge.rs` and `ticks.rs`. The four cells 1, 2,
+//! 65 and 66 touch one another.
 #![allow(dead_code)]
 
 use oracle::*;
@@ -52,6 +53,11 @@ pub fn chain(book: &Book, a: u32, b: u32) -> Result<(u64, u32, Vec<u16>), Refusa
 
 pub fn history(book: &Book) -> &History {
     book.history.as_ref().unwrap()
+}
+
+/// The tick so many after the book's time.
+pub fn later(book: &Book, ticks: u32) -> u32 {
+    history(book).time.wrapping_add(ticks)
 }
 
 /// The records of the listing: (tick, cells).
@@ -106,10 +112,12 @@ pub fn cell_of(dice: &mut Dice, book: &Book, cells: u32) -> u32 {
     in_lorrys_numbers(strip(dice.below(cells)), history(book).settings.mounting)
 }
 
-/// A random book over a few cells, its time somewhere in a later chunk.
+/// A random book over a few cells, its time somewhere in a later chunk. T0 lies
+/// on either side of the counter's end, so that some pass it.
 pub fn random_book(dice: &mut Dice, cells: u32) -> Book {
     let n = 1 + dice.below(6);
-    let mut book = opened(n, 1 + dice.below(3), 1 + dice.below(2), dice.below(50));
+    let (b, mounting) = (1 + dice.below(3), 1 + dice.below(2));
+    let mut book = opened(n, b, mounting, dice.below(100).wrapping_sub(50));
     for _ in 0..dice.below(60) {
         // Mostly the same tick, else on by a little, or over a chunk.
         let moves = dice.below(6) == 0;
@@ -118,7 +126,7 @@ pub fn random_book(dice: &mut Dice, cells: u32) -> Book {
         } else {
             0
         };
-        let tick = history(&book).time + jump;
+        let tick = later(&book, jump);
         let first = dice.below(cells - 1);
         let second = (first + 1 + dice.below(2)).min(cells - 1);
         let (a, b) = (strip(first), strip(second));

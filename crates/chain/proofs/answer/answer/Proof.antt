@@ -45,7 +45,7 @@ answered-requires c κs =
     let entry = start (e .before) in
     let clock = entry .args .clock in
     let slide = c .open-slide .ensures in (
-      omega (arith, slide, open-fits clock (omega (arith, entry .good))),
+      omega (arith, slide, open-fits clock (entry .pre .total-most)),
       (omega (arith, slide, newest-is (entry .pre) (e .before .newest-label .ensures) (joined e)), joined e),
     )
 
