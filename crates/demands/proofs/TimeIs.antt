@@ -125,14 +125,19 @@ module _ {h : History} (t : Timed h) (tick : ℕ) where
   unfolding numberIn
   clock-told room = Iff·trans (checked 4 refl (notBefore (h .clock) tick)) too-early
 
-  link-told : (room : Bool) (one other : ℕ) → (numberIn room h (link tick one other) ≡ 4) ↔ ((areCells one other ≡ true) × (touch one other ≡ true) × TooEarly h tick)
+  -- by the checks of a link
+  four-told : (room : Bool) (one other : ℕ) →
+      (numberIn room h (link tick one other) ≡ 4) ↔ ((areCells one other ≡ true) × ((touch one other ≡ true) × (notBefore (h .clock) tick ≡ false)))
   unfolding numberIn
+  four-told room one other =
+      asked-later 4 refl (areCells one other) 2 _ refl
+      (asked-later 4 refl (touch one other) 13 _ refl
+      (asked-here 4 refl (notBefore (h .clock) tick) _
+      (never-asked 4 refl (ltb (howMany (slideLinks (slideOf (h .clock) tick) (h .links))) 256) 5 _ refl (never-last 4 refl))))
+
+  link-told : (room : Bool) (one other : ℕ) → (numberIn room h (link tick one other) ≡ 4) ↔ ((areCells one other ≡ true) × (touch one other ≡ true) × TooEarly h tick)
   link-told room one other =
-      let four =
-          asked-later 4 refl (areCells one other) 2 _ refl
-          (asked-later 4 refl (touch one other) 13 _ refl
-          (asked-here 4 refl (notBefore (h .clock) tick) _
-          (never-asked 4 refl (ltb (howMany (slideLinks (slideOf (h .clock) tick) (h .links))) 256) 5 _ refl (never-last 4 refl)))) in
+      let four = four-told room one other in
       (λ e. let w = four .0 e in (w .0, w .1 .0, too-early .0 (w .1 .1)), λ w. four .1 (w .0, (w .1, too-early .1 (w .2))))
 
 -- ---- the total never falls
