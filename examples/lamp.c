@@ -33,7 +33,7 @@ static void show_lamps(size_t mask_bytes)
     const struct kerb_lamps_answer lamps = kerb_lamps(&book, KERB_PLACES(the_log), body, mask_bytes);
     const bool unknown = !done("lamps", lamps.number);
 
-    printf("tick %lu, slide %lu: ", (unsigned long)kerb_time(&book), (unsigned long)kerb_open_slide(&book));
+    printf("tick %lu, slide %llu: ", (unsigned long)kerb_time(&book), (unsigned long long)kerb_open_slide(&book));
     show("left", unknown || lamps.left, lamps.left_cell);
     show(", right", unknown || lamps.right, lamps.right_cell);
     printf("\n");

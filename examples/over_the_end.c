@@ -15,8 +15,8 @@ static const uint32_t day = 24u * 60 * 60 * 1000; /* in ticks */
 
 static void show(const char *what, uint8_t number)
 {
-    printf("%s: number %u; tick %lu, total %llu, slide %lu\n", what, (unsigned)number, (unsigned long)kerb_time(&book),
-           (unsigned long long)book.clock.total, (unsigned long)kerb_open_slide(&book));
+    printf("%s: number %u; tick %lu, total %llu, slide %llu\n", what, (unsigned)number, (unsigned long)kerb_time(&book),
+           (unsigned long long)book.clock.total, (unsigned long long)kerb_open_slide(&book));
 }
 
 /* Opens the book at this tick. */
@@ -55,12 +55,12 @@ int main(void)
         show("link", kerb_link(&book, KERB_PLACES(the_log), links[i].tick, links[i].one, links[i].other));
 
     why = kerb_chain(&book, KERB_PLACES(the_log), 95, 162, KERB_PLACES(the_chain));
-    printf("95 and 162: number %u, from slide %lu on, hold %u, chain", (unsigned)why.number, (unsigned long)why.newest,
-           (unsigned)why.hold);
+    printf("95 and 162: number %u, from slide %llu on, hold %u, chain", (unsigned)why.number,
+           (unsigned long long)why.newest, (unsigned)why.hold);
     for (i = 0; i < why.cells; i++)
         printf(" %u", (unsigned)the_chain[i]);
     slide = kerb_slide_ticks(&book, why.newest);
-    printf("\nslide %lu: ticks %lu to %lu, totals %llu to %llu\n", (unsigned long)why.newest, (unsigned long)slide.first,
+    printf("\nslide %llu: ticks %lu to %lu, totals %llu to %llu\n", (unsigned long long)why.newest, (unsigned long)slide.first,
            (unsigned long)slide.last, (unsigned long long)slide.first_total, (unsigned long long)slide.last_total);
 
     /* a tick before the book's time is refused, on either side of the end */

@@ -25,7 +25,7 @@ static void ask(uint16_t one, uint16_t other)
     printf(" chain");
     for (place = 0; place < chain.cells; place++)
         printf(" %u", (unsigned)the_chain[place]);
-    printf(", from slide %lu on, hold %u\n", (unsigned long)chain.newest, (unsigned)chain.hold);
+    printf(", from slide %llu on, hold %u\n", (unsigned long long)chain.newest, (unsigned)chain.hold);
 }
 
 static void link_at(uint32_t tick, uint16_t one, uint16_t other)

@@ -6,16 +6,15 @@
 -- A total to come is reached tick by tick (`reach`): each is 1 ahead of the one before.
 use Prim.Native.Nat.{ℕ, zero, suc, _+_, _-_, _*_, _/_, _%_, _≤_, _<_}
 use mathlib.Core.Path.{_≡_, refl, sym, ap, ap₂, _∙_}
-use mathlib.Core.Bool.{Bool, true, false, _&&_, true≢false}
+use mathlib.Core.Bool.{Bool, true, false, true≢false}
 use mathlib.Core.List.{List, [], _∷_, map}
 use mathlib.Core.Logic.{inl, inr, _↔_, Iff·trans}
 use mathlib.Core.Option.{none as nothing, some}
 use native.Mathlib.Omega.{arith}
 use native.Mathlib.Nat.{le-refl, add-zero, sub-self, mod-lt, mod-mod, mul-div-cancel, div-lt-iff-lt-mul, mul-le-mul-right}
 use native.Mathlib.Decide.{decLt, decLe}
-use lib.Dec.{ltb, leb}
+use lib.Dec.{ltb}
 use lib.ListN.{getD}
-use borrow.Author.Tests.{le-ltb, lt-ltb, le-leb, lt-leb}
 use Rattle.numbers.specs.Checks.{firstOf, unless}
 use Rattle.settings.specs.declared.Settings.{Settings}
 use Rattle.cells.specs.Touching.{touch}
@@ -23,7 +22,7 @@ use Rattle.slides.specs.Counter.{tickLimit, halfTurn, ahead, counterAt}
 use Rattle.slides.specs.Clock.{totalMost, timeOf, differenceOf, notBefore, totalWith, slideOf, openSlide, movedTo}
 use Rattle.slides.specs.declared.Clock.{Clock}
 use Rattle.slides.proofs.Counter.{ahead-turns, ahead-plain, ahead-is}
-use Rattle.slides.proofs.Slides.{InRange, not-before, moved-t0, moved-b, moved-total, moved-time, total-later, open-fits}
+use Rattle.slides.proofs.Slides.{InRange, Taken, not-before, started-time, open-total, moved-t0, moved-b, moved-total, moved-time, total-later, open-fits}
 use Rattle.book_state.specs.Numbers.{areCells}
 use Rattle.demands.specs.History.{
   Call,
@@ -48,7 +47,7 @@ use Rattle.demands.specs.History.{
   totalIn,
 }
 use Rattle.demands.specs.Implementation.{ours, State, gives, after}
-use Rattle.demands.specs.Demands.{roomIn, HasHistory, TooEarly, Rising, none, next, NotAlone, Reached, Time}
+use Rattle.demands.specs.Demands.{roomIn, HasHistory, TooEarly, Rising, none, next, NotAlone, ByClocks, Time}
 use Rattle.demands.specs.Agrees.{Agrees}
 use Rattle.numbers.proofs.Checks.{first-passed, unless-passed, never-asked, never-last, checked, asked-here, asked-later}
 use Rattle.demands.proofs.Histories.{every-history}
@@ -62,8 +61,8 @@ record Timed (h : History) : Type 0 where
   pub time : timeOf (h .clock) ≡ latestIn h % tickLimit
 
 begun-timed : (s : Settings) → Timed (begun s)
-unfolding sumOf latestOf counterAt
-begun-timed s = record { total = refl; time = ap (λ x. x % tickLimit) (add-zero (s .t0)) }
+unfolding sumOf latestOf
+begun-timed s = record { total = refl; time = started-time s }
 
 -- the difference from the book's time is that from the latest tick
 difference-is : {h : History} → Timed h → (tick : ℕ) → differenceOf (h .clock) tick ≡ ahead (latestIn h) tick
@@ -100,26 +99,28 @@ timed s cs h told = every-history Timed (roomIn s) begun-timed (added-timed (roo
 -- ---- number 4
 
 module _ {h : History} (t : Timed h) (tick : ℕ) where
-  -- a tick is refused exactly when it is too early
+  -- a tick that is taken is not too early
+  apart : Taken (h .clock) tick → TooEarly h tick → ⊥
+  apart taken (inl far) = omega (arith, taken .near, difference-is t tick, far)
+  apart taken (inr over) = omega (arith, taken .room, difference-is t tick, t .total, over)
+
+  -- so it is refused exactly when it is
   too-early : (notBefore (h .clock) tick ≡ false) ↔ TooEarly h tick
-  unfolding notBefore
-  too-early = rw (difference-is t tick, t .total) (there, back)
+  too-early = (there, λ early. back early _ refl)
     where
-      there : (ltb (ahead (latestIn h) tick) halfTurn && leb (totalIn h + ahead (latestIn h) tick) totalMost) ≡ false → TooEarly h tick
+      there : notBefore (h .clock) tick ≡ false → TooEarly h tick
       there e = go (decLt (ahead (latestIn h) tick) halfTurn) (decLe (totalIn h + ahead (latestIn h) tick) totalMost)
         where
           go : Dec (ahead (latestIn h) tick < halfTurn) → Dec (totalIn h + ahead (latestIn h) tick ≤ totalMost) → TooEarly h tick
           go (no far) room = inl (omega (arith, far))
           go (yes near) (no over) = inr (omega (arith, over))
-          go (yes near) (yes room) = absurd (true≢false (sym (ap₂ _&&_ (lt-ltb _ _ near) (le-leb _ _ room)) ∙ e))
+          go (yes near) (yes room) =
+              let taken = not-before (h .clock) tick .1 (record { near = rw (difference-is t tick) near; room = rw (difference-is t tick, t .total) room }) in
+              absurd (true≢false (sym taken ∙ e))
 
-      back : TooEarly h tick → (ltb (ahead (latestIn h) tick) halfTurn && leb (totalIn h + ahead (latestIn h) tick) totalMost) ≡ false
-      back (inl far) = rw (le-ltb _ _ far)
-      back (inr over) = go (ltb (ahead (latestIn h) tick) halfTurn)
-        where
-          go : (near : Bool) → (near && leb (totalIn h + ahead (latestIn h) tick) totalMost) ≡ false
-          go false = refl
-          go true = lt-leb _ _ over
+      back : TooEarly h tick → (later : Bool) → notBefore (h .clock) tick ≡ later → later ≡ false
+      back early true e = absurd (apart (not-before (h .clock) tick .0 e) early)
+      back early false e = refl
 
   clock-told : (room : Bool) → (numberIn room h (clock tick) ≡ 4) ↔ TooEarly h tick
   unfolding numberIn
@@ -163,8 +164,7 @@ rises {h} {s} a tick one other = (
 -- ---- slides
 
 slide-is : {h : History} → Timed h → openSlideIn h ≡ totalIn h / h .clock .b
-unfolding openSlide
-slide-is {h} t = ap (λ x. x / h .clock .b) (t .total)
+slide-is {h} t = open-total (h .clock) ∙ ap (λ x. x / h .clock .b) (t .total)
 
 -- ticks that never fall
 rising-from : {t0 : ℕ} {ts : List ℕ} → Rising t0 ts → t0 ≤ latestOf t0 ts
@@ -218,12 +218,8 @@ not-alone s room =
 
 -- ---- every total to come is reached
 
--- clock calls with these ticks, each of 32 bits, lead from a history to one with so much more of a total
-record Reaches (room : Bool) (h : History) (more : ℕ) : Type 0 where
-  pub ticks : List ℕ
-  pub fit : (i : ℕ) → getD ticks i 0 < tickLimit
-  pub later : History
-  pub told : historyFrom room (some h) (map clock ticks) ≡ some later
+-- so much more of a total, and the same B
+record Further (h : History) (more : ℕ) (later : History) : Type 0 where
   pub total : later .clock .total ≡ h .clock .total + more
   pub same-b : later .clock .b ≡ h .clock .b
 
@@ -249,25 +245,30 @@ module _ (room : Bool) (h : History) (most : h .clock .total + 1 ≤ totalMost) 
   unfolding historyFrom oneMore numberIn addedByNumber added
   next-told ticks = ap (λ later. historyFrom room (some (addedByNumber (unless later 4) h (clock tick))) (map clock ticks)) next-taken
 
-  further : {more : ℕ} → Reaches room (withTime h tick) more → Reaches room h (suc more)
+  further : {more : ℕ} → ByClocks room (withTime h tick) (Further (withTime h tick) more) → ByClocks room h (Further h (suc more))
   further {more} r =
       record {
         ticks = tick ∷ r .ticks;
         fit = fit;
         later = r .later;
         told = next-told (r .ticks) ∙ r .told;
-        total = omega (arith, r .total, next-total);
-        same-b = r .same-b ∙ moved-b (h .clock) tick;
+        holds = record { total = omega (arith, r .holds .total, next-total); same-b = r .holds .same-b ∙ moved-b (h .clock) tick };
       }
     where
       fit : (i : ℕ) → getD (tick ∷ r .ticks) i 0 < tickLimit
       fit zero = mod-lt (timeOf (h .clock) + 1) (omega arith)
       fit (suc i) = r .fit i
 
-reach : (room : Bool) (more : ℕ) (h : History) → h .clock .total + more ≤ totalMost → Reaches room h more
+reach : (room : Bool) (more : ℕ) (h : History) → h .clock .total + more ≤ totalMost → ByClocks room h (Further h more)
 unfolding historyFrom
 reach room zero h most =
-    record { ticks = []; fit = λ i. omega arith; later = h; told = refl; total = sym (add-zero (h .clock .total)); same-b = refl }
+    record {
+      ticks = [];
+      fit = λ i. omega arith;
+      later = h;
+      told = refl;
+      holds = record { total = sym (add-zero (h .clock .total)); same-b = refl };
+    }
 reach room (suc more) h most =
     let near : h .clock .total + 1 ≤ totalMost = omega (arith, most) in
     further room h near (reach room more (withTime h (tick-next (h .clock))) (omega (arith, next-total room h near, most)))
@@ -278,29 +279,28 @@ module _ (room : Bool) (h : History) (range : InRange (h .clock)) (c : ℕ) (mos
   first = (openSlideIn h + suc c) * h .clock .b
 
   below : h .clock .total ≤ first
-  unfolding openSlide
   below =
-      let before : h .clock .total < (openSlideIn h + 1) * h .clock .b = div-lt-iff-lt-mul (range .b-least) .0 (omega arith) in
+      let before : h .clock .total < (openSlideIn h + 1) * h .clock .b = div-lt-iff-lt-mul (range .b-least) .0 (omega (arith, open-total (h .clock))) in
       let wide : (openSlideIn h + 1) * h .clock .b ≤ first = mul-le-mul-right (h .clock .b) (omega arith) in
       omega (arith, before, wide)
 
-  slide-reached : Reached room h (suc c)
-  unfolding openSlide
+  slide-reached : ByClocks room h λ later. openSlideIn later ≡ openSlideIn h + suc c
   slide-reached =
       let r = reach room (first - h .clock .total) h (omega (arith, below, most)) in
-      let there : r .later .clock .total ≡ first = omega (arith, r .total, below) in
+      let there : r .later .clock .total ≡ first = omega (arith, r .holds .total, below) in
       record {
         ticks = r .ticks;
         fit = r .fit;
         later = r .later;
         told = r .told;
-        slide = rw (r .same-b, there) (mul-div-cancel (openSlideIn h + suc c) (range .b-least));
+        holds = open-total (r .later .clock) ∙ rw (r .holds .same-b, there) (mul-div-cancel (openSlideIn h + suc c) (range .b-least));
       }
 
-reached : (room : Bool) (h : History) → InRange (h .clock) → (c : ℕ) → (openSlideIn h + c) * h .clock .b ≤ totalMost → Reached room h c
+reached : (room : Bool) (h : History) → InRange (h .clock) → (c : ℕ) → (openSlideIn h + c) * h .clock .b ≤ totalMost
+    → ByClocks room h λ later. openSlideIn later ≡ openSlideIn h + c
 unfolding historyFrom
 reached room h range zero most =
-    record { ticks = []; fit = λ i. omega arith; later = h; told = refl; slide = sym (add-zero (openSlideIn h)) }
+    record { ticks = []; fit = λ i. omega arith; later = h; told = refl; holds = sym (add-zero (openSlideIn h)) }
 reached room h range (suc c) most = slide-reached room h range c most
 
 -- ---- the demand

@@ -286,13 +286,13 @@ pub record NotAlone (p : Implementation) (s : State) : Type 0 where
   pub first-turn : slideAfter p s (5 ∷ []) ≡ 0
   pub second-turn : slideAfter p s (2147483647 ∷ 4294967294 ∷ 5 ∷ []) ≡ 429496730
 
--- clock calls with these ticks, each of 32 bits, open the slide that is c closings on
-pub record Reached (room : Bool) (h : History) (c : ℕ) : Type 0 where
+-- clock calls with these ticks, each of 32 bits, lead from a history to one of which this holds
+pub record ByClocks (room : Bool) (h : History) (Holds : History → Type 0) : Type 0 where
   pub ticks : List ℕ
   pub fit : (i : ℕ) → getD ticks i 0 < tickLimit
   pub later : History
   pub told : historyFrom room (some h) (map clock ticks) ≡ some later
-  pub slide : openSlideIn later ≡ openSlideIn h + c
+  pub holds : Holds later
 
 -- the time: what a tick means, by the ticks that were accepted since the opening (RULES 2.3, 2.4)
 pub record Time (p : Implementation) : Type 0 where
@@ -316,7 +316,7 @@ pub record Time (p : Implementation) : Type 0 where
   pub numbered : AfterCalls p λ s h. openSlideIn h + 1 < 2 ^ 64
   -- every slide to come that some total reaches is reached by clock calls
   pub reached : AfterCalls p λ s h. (c : ℕ) → (openSlideIn h + c) * h .clock .b ≤ totalMost →
-      Reached (roomIn s) h c
+      ByClocks (roomIn s) h λ later. openSlideIn later ≡ openSlideIn h + c
 
 -- only cells that touch are linked (RULES 1.8, 2.11). Either may be named first, none touches itself, and the unit's numbers and the
 -- lorry's are judged alike; any two cells that a link of a history links touch, in the lorry's numbers

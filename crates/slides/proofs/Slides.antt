@@ -3,7 +3,7 @@
 -- A slide is chunk × n + place, with the place below n. So two slides that are d chunks apart are d × n apart, but for
 -- the difference of their places (`apart`). Hence a slide less than n later lies in the same chunk or in the next one,
 -- and in the next one it is less than n later exactly where its place is the lower: the window of the two forests.
-use Prim.Native.Nat.{ℕ, zero, suc, _+_, _-_, _*_, _/_, _%_, _≤_, _<_, min}
+use Prim.Native.Nat.{ℕ, zero, suc, _+_, _-_, _*_, _/_, _%_, _≤_, _<_}
 use mathlib.Core.Bool.{Bool, true, false, cond, _&&_, _||_, false≢true, and-eq-true-iff}
 use mathlib.Core.Logic.{_⊎_, inl, inr, _↔_, ⊎-elim}
 use mathlib.Core.List.{List}
@@ -16,8 +16,8 @@ use native.Mathlib.Decide.{decLt}
 use Rattle.settings.specs.Settings.{takenNumber}
 use Rattle.settings.specs.declared.Settings.{Settings}
 use Rattle.slides.specs.declared.Clock.{Clock}
-use Rattle.slides.specs.Counter.{tickLimit, halfTurn}
-use Rattle.slides.specs.Clock.{totalMost, timeOf, differenceOf, notBefore, totalWith, slideOf, openSlide, firstTotal, hasTicks, ticksIf, ticksOf, chunkOf, placeOf, started, movedTo, clockInRange}
+use Rattle.slides.specs.Counter.{tickLimit, halfTurn, counterAt}
+use Rattle.slides.specs.Clock.{totalMost, timeOf, differenceOf, notBefore, totalWith, slideOf, openSlide, firstTotal, lastTotal, hasTicks, ticksIf, ticksOf, chunkOf, placeOf, started, movedTo, clockInRange}
 use Rattle.slides.proofs.Counter.{ahead-same, counter-ahead}
 
 -- ---- the clock and its ticks
@@ -30,7 +30,7 @@ pub record Taken (clock : Clock) (tick : ℕ) : Type 0 where
 pub not-before : (clock : Clock) (tick : ℕ) → (notBefore clock tick ≡ true) ↔ Taken clock tick
 unfolding notBefore
 not-before clock tick = (
-  λ e. let w : (ltb (differenceOf clock tick) halfTurn ≡ true) × (leb (clock .total + differenceOf clock tick) totalMost ≡ true) = and-eq-true-iff _ _ .0 e in
+  λ e. let w = and-eq-true-iff _ _ .0 e in
       record { near = ltb-true _ _ (w .0); room = leb-true _ _ (w .1) },
   λ t. rw (lt-ltb _ _ (t .near), le-leb _ _ (t .room)),
 )
@@ -40,6 +40,11 @@ pub not-before-time : (clock : Clock) → clock .total ≤ totalMost → notBefo
 not-before-time clock most =
     not-before clock (timeOf clock) .1
     (record { near = rw (ahead-same (timeOf clock)) (omega arith); room = rw (ahead-same (timeOf clock)) (omega (arith, most)) })
+
+-- time starts at T0
+pub started-time : (s : Settings) → timeOf (started s) ≡ s .t0 % tickLimit
+unfolding counterAt
+started-time s = ap (λ x. x % tickLimit) (add-zero (s .t0))
 
 module _ (clock : Clock) (tick : ℕ) where
   pub moved-t0 : movedTo clock tick .t0 ≡ clock .t0
@@ -81,6 +86,11 @@ module _ (clock : Clock) (tick : ℕ) where
 div-mono : (n : ℕ) {x y : ℕ} → x ≤ y → x / n ≤ y / n
 div-mono zero h = simp div-zero (le-refl 0)
 div-mono (suc n) {x} h = le-div-iff-mul-le (zero-lt-suc n) .1 (le-trans (div-mul-le-self x (suc n)) h)
+
+-- the open slide is that of the total
+pub open-total : (clock : Clock) → openSlide clock ≡ clock .total / clock .b
+unfolding openSlide
+open-total clock = refl
 
 -- a book opens in slide 0
 pub started-slide : (s : Settings) → openSlide (started s) ≡ 0
@@ -251,25 +261,19 @@ module _ (b slide : ℕ) (some : 0 < b) where
 -- where a slide has ticks, a total is of that slide exactly when it is one of its totals. Of a tick nothing of the kind can be said: the counter
 -- comes to it again with every turn
 module _ (clock : Clock) (slide total : ℕ) (exists : ticksOf clock slide .exists ≡ true) (most : total ≤ totalMost) where
-  abbrev first : ℕ
-  first = firstTotal clock slide
-
-  abbrev last : ℕ
-  last = min (first + (clock .b - 1)) totalMost
-
   has : hasTicks clock slide ≡ true
   unfolding ticksIf
   has = go (hasTicks clock slide) exists
     where
-      go : (t : Bool) → ticksIf t (clock .t0) first last .exists ≡ true → t ≡ true
+      go : (t : Bool) → ticksIf t (clock .t0) (firstTotal clock slide) (lastTotal clock slide) .exists ≡ true → t ≡ true
       go true e = refl
       go false e = absurd (false≢true e)
 
   some : 0 < clock .b
   some = ltb-true _ _ (and-eq-true-iff (ltb 0 (clock .b)) _ .0 has .0)
 
-  as-ticks : ticksOf clock slide ≡ ticksIf true (clock .t0) first last
-  as-ticks = ap (λ t. ticksIf t (clock .t0) first last) has
+  as-ticks : ticksOf clock slide ≡ ticksIf true (clock .t0) (firstTotal clock slide) (lastTotal clock slide)
+  as-ticks = ap (λ t. ticksIf t (clock .t0) (firstTotal clock slide) (lastTotal clock slide)) has
 
   pub slide-totals : (total / clock .b ≡ slide) ↔ ((ticksOf clock slide .«first_total» ≤ total) × (total ≤ ticksOf clock slide .«last_total»))
   unfolding ticksIf
@@ -278,11 +282,11 @@ module _ (clock : Clock) (slide total : ℕ) (exists : ticksOf clock slide .exis
       next : (slide + 1) * clock .b ≡ slide * clock .b + clock .b
       next = omega (arith, add-mul slide 1 (clock .b))
 
-      there : total / clock .b ≡ slide → (first ≤ total) × (total ≤ last)
+      there : total / clock .b ≡ slide → (firstTotal clock slide ≤ total) × (total ≤ lastTotal clock slide)
       there e =
           let low : slide * clock .b ≤ total = le-div-iff-mul-le some .0 (rw e (le-refl slide)) in
           let high : total < (slide + 1) * clock .b = div-lt-iff-lt-mul some .0 (rw e (omega arith)) in
           (low, omega (arith, high, next, most))
 
-      back : (first ≤ total) × (total ≤ last) → total / clock .b ≡ slide
+      back : (firstTotal clock slide ≤ total) × (total ≤ lastTotal clock slide) → total / clock .b ≡ slide
       back w = div-eq-of-lt-le (clock .b) (w .0) (omega (arith, w .1, next, some))

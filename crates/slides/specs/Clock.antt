@@ -41,9 +41,13 @@ slideOf clock tick = totalWith clock tick / clock .b
 unfoldable pub openSlide : Clock → Slide
 openSlide clock = clock .total / clock .b
 
--- the total with which a slide begins (RULES 2.4)
+-- the total with which a slide begins,
 abbrev pub firstTotal : (clock : Clock) (slide : Slide) → Total
 firstTotal clock slide = slide * clock .b
+
+-- and the one with which it ends: it has B ticks, and is cut short where totals end (RULES 2.4)
+abbrev pub lastTotal : (clock : Clock) (slide : Slide) → Total
+lastTotal clock slide = min (firstTotal clock slide + (clock .b - 1)) totalMost
 
 -- some total reaches the slide
 abbrev pub hasTicks : (clock : Clock) (slide : Slide) → Bool
@@ -55,11 +59,8 @@ ticksIf true t0 first last =
     record { «first_total» = first; «last_total» = last; first = counterAt t0 first; last = counterAt t0 last; exists = true }
 ticksIf false t0 first last = record { «first_total» = 0; «last_total» = 0; first = 0; last = 0; exists = false }
 
--- a slide has B ticks, and is cut short where totals end (RULES 2.4)
 abbrev pub ticksOf : (clock : Clock) (slide : Slide) → SlideTicks
-ticksOf clock slide =
-    let first : Total = firstTotal clock slide in
-    ticksIf (hasTicks clock slide) (clock .t0) first (min (first + (clock .b - 1)) totalMost)
+ticksOf clock slide = ticksIf (hasTicks clock slide) (clock .t0) (firstTotal clock slide) (lastTotal clock slide)
 
 -- chunk q holds slides qn to qn + n - 1 (RULES 3.1),
 abbrev pub chunkOf : (clock : Clock) (slide : Slide) → Chunk

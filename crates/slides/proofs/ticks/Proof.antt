@@ -1,19 +1,19 @@
 -- `slides::ticks` meets its contract: some total reaches a slide exactly when it is not after the slide of the largest total (Slides, `begins`).
 use borrow.Author.Needs.{needs}
-use Prim.Native.Nat.{ℕ, _+_, _-_, _*_, _≤_, _<_, min}
+use Prim.Native.Nat.{ℕ, _+_, _-_, _*_, _≤_, _<_}
 use mathlib.Core.Path.{_≡_, ap, _∙_}
 use mathlib.Core.Bool.{true, false}
 use borrow.Author.Tests.{lt-ltb, le-ltb, le-leb, lt-leb}
 use native.Mathlib.Nat.{pos-of-ne-zero}
 use native.Mathlib.Omega.{arith}
-use Rattle.slides.specs.Clock.{totalMost, firstTotal, ticksIf, ticksOf}
+use Rattle.slides.specs.Clock.{totalMost, firstTotal, lastTotal, ticksIf, ticksOf}
 use Rattle.slides.specs.declared.Clock.{Clock}
 use Rattle.slides.proofs.Slides.{begins, never-begins}
 use Rattle.slides.proofs.ticks.Statement.{statement}
 use Rattle.slides.proofs.ticks.Tie as tie
 
 -- a slide that has ticks
-has-ticks : (clock : Clock) (slide last : ℕ) → 0 < clock .b → firstTotal clock slide ≤ totalMost → last ≡ min (firstTotal clock slide + (clock .b - 1)) totalMost
+has-ticks : (clock : Clock) (slide last : ℕ) → 0 < clock .b → firstTotal clock slide ≤ totalMost → last ≡ lastTotal clock slide
     → ticksIf true (clock .t0) (firstTotal clock slide) last ≡ ticksOf clock slide
 has-ticks clock slide last some there e = rw (lt-ltb _ _ some, le-leb _ _ there) (ap (ticksIf true (clock .t0) (firstTotal clock slide)) e)
 
