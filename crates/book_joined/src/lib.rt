@@ -1,4 +1,6 @@
 // The joined call: four walks, always all four; and where neither forest alone decides, the crossing.
+#![tactic(auto)]
+
 ghost use Rattle.std.specs.Prelude.{◌≡◌, false, cond, not, ◌&&◌, ◌+◌, ◌<◌, eqb, ltb, length};
 ghost use Rattle.graph.specs.Link.{chains};
 ghost use Rattle.forest.specs.Arrays.{parent_in, parent_at_in};

@@ -1,5 +1,7 @@
 // The link call: number 1 first, then the other checks; a link that is taken moves the time and is stored in the slide that is open then. Which
 // one that is does not follow from the tick alone (RULES 2.4). What the call gives is defined with the other calls (crates/book/specs/Calls.antt).
+#![tactic(auto)]
+
 ghost use Rattle.std.specs.Prelude.{ℕ, ◌≡◌, true, List};
 ghost use Rattle.cells.specs.declared.Fitting.{Fitting};
 ghost use Rattle.book_state.specs.Order.{book_of, in_order_of_lem};

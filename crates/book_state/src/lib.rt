@@ -1,5 +1,7 @@
 // The state: the book of links for one lidar unit and its log, as data. What the fields are, when they are in order (number
 // 1), and where a slide's links are counted and logged. The calls that change it are in the crate book.
+#![tactic(auto)]
+
 pub mod order; // order.rt: number 1, whether a book's fields are in their ranges and its walks within their steps
 pub mod spots; // spots.rt: where the links of a slide are counted and logged
 

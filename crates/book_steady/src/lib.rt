@@ -4,6 +4,8 @@
 // trees have all cells between them. Such a book stays in order (`linked_steady` in proofs/StaysInOrder.antt): a link keeps the sizes so,
 // and a forest that time makes is made of links. Any other book has to be asked number 1 at each link, as the link call does; so no answer
 // depends on this, only time does.
+#![tactic(auto)]
+
 ghost use Rattle.std.specs.Prelude.{◌≡◌, true};
 ghost use Rattle.book_state.specs.Arrays.{step_limit};
 ghost use Rattle.forest_check.specs.Sound.{sound_of};

@@ -1,5 +1,7 @@
 // The step of time: within a chunk nothing else changes; into the next chunk the backward forest is built from the chunk
 // that ends; further, nothing is left.
+#![tactic(auto)]
+
 ghost use Rattle.std.specs.Prelude.{◌≡◌, map, [], ℕ, ◌+◌, ◌-◌, ◌*◌, ◌≤◌, ◌<◌, length};
 ghost use Rattle.cells.specs.declared.Fitting.{Fitting};
 ghost use Rattle.book_state.specs.Arrays.{arrays_of, fresh_arrays, united_all};

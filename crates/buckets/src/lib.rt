@@ -1,6 +1,8 @@
 // Entries of equal key as lists in two arrays, one list for each key, so that a key's entries are walked in time linear in their
 // number. They are listed in one pass from the last entry to the first: each becomes the first of its key, and what was first
 // comes next.
+#![tactic(auto)]
+
 ghost use Rattle.std.specs.Prelude.{◌≡◌, ◌<◌, length, get_or};
 ghost use Rattle.buckets.specs.Listed.{Listed, AllListed};
 

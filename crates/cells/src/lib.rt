@@ -1,4 +1,6 @@
 // The lorry's numbers of a unit's cells, by the way the unit is mounted, and which cells touch (RULES 1).
+#![tactic(auto)]
+
 ghost use Rattle.std.specs.Prelude.{◌≡◌};
 ghost use Rattle.cells.specs.Cell.{sectors, ring_of, sector_of, mirror, lorry_cell_of, unit_cell_of};
 ghost use Rattle.cells.specs.Touching.{difference, touch};

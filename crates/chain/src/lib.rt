@@ -1,5 +1,7 @@
 // The chain call: the newest slide from which on links chain two cells, the best trail over those links, and for how many
 // further closings the two stay joined.
+#![tactic(auto)]
+
 mod answer; // answer.rt: the answer for a book in order, two cells and buffers that are long enough
 
 ghost use Rattle.book_state.specs.Order.{book_of};

@@ -1,6 +1,8 @@
 // The best trail over links in two lists, with fewest cells and first by cell numbers: link i joins ones[i] and others[i]. From
 // the second cell on each cell gets the number of cells that lead on from it, level by level; then the trail goes from the
 // first cell always to the smallest cell one nearer.
+#![tactic(auto)]
+
 mod descent; // descent.rt: the best trail, from the first cell down
 mod levels; // levels.rt: how many cells lead on from each cell
 

@@ -1,5 +1,7 @@
 // The newest label from which on links of the window chain two cells. The links are joined slide by slide, newest first, in scratch
 // parents, up to the link with which the two cells meet: its label is the one, and older links are not read.
+#![tactic(auto)]
+
 ghost use Rattle.std.specs.Prelude.{◌≡◌, [], suc, ◌+◌, ◌*◌, ◌≤◌, length};
 ghost use Rattle.book_state.specs.Log.{Readable, keep, links_at};
 ghost use Rattle.forest_scratch.specs.Scratch.{Descends};

@@ -1,1 +1,2 @@
 // No code: the worked cases, computed by the definitions that the contracts cite. See specs/.
+#![tactic(auto)]

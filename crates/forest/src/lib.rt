@@ -1,5 +1,7 @@
 // The labelled forest of RULES 3 in arrays: parents, sizes and labels of cells, each an array of its own.
 // What reads them takes slices: a cell beyond a slice is its own root, of size 1, with label 0.
+#![tactic(auto)]
+
 ghost use Rattle.std.specs.Prelude.{◌≡◌};
 ghost use Rattle.forest.specs.Arrays.{places, fresh_parents_of, fresh_sizes_of, fresh_labels_of};
 

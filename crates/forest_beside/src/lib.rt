@@ -1,5 +1,7 @@
 // One link more in a labelled forest whose parents are never shortened, with scratch parents beside it that are: they find the roots of
 // the two ends, and the forest takes the step that it would have taken.
+#![tactic(auto)]
+
 ghost use Rattle.std.specs.Prelude.{◌≡◌, ◌<◌};
 ghost use Rattle.forest_scratch.specs.Scratch.{join_of};
 ghost use Rattle.book_state.specs.Arrays.{cells, arrays_of, united};

@@ -4,6 +4,8 @@
 // doubles a size that stays within the number of cells. Only where some size does not do that are the walks taken.
 // A pass keeps a flag, or the least and the greatest so far, in the width of the entries, and goes on, with no way out: so a
 // machine can do several entries at a time.
+#![tactic(auto)]
+
 ghost use Rattle.std.specs.Prelude.{◌≡◌, cond, ◌&&◌, ◌-◌, ◌*◌, ◌^◌, ◌≤◌, ◌<◌, eqb, leb, ltb, length};
 ghost use Rattle.forest.specs.Arrays.{places, parent_in};
 ghost use Rattle.forest_check.specs.Sound.{every, within, ends, ends_from_of, Comparable, Above, doubles_at, sound_of, labels_within_of};

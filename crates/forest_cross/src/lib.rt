@@ -1,6 +1,8 @@
 // Crossing (RULES 4): from a group of the backward forest to each forward group that shares a cell with it, and from
 // there back again, until no new group is met. A cell's key is the root of its tree; the cells of one key are a group, and are
 // listed behind their root.
+#![tactic(auto)]
+
 ghost use Rattle.std.specs.Prelude.{◌<◌, length};
 ghost use Rattle.forest.specs.Arrays.{places, fresh_labels_of, roots_of, roots_at_of};
 ghost use Rattle.forest_cross.specs.Across.{JoinedAcross};

@@ -1,5 +1,7 @@
 // Parents that may be shortened: which cells links chain together, and nothing else. No cell's parent is above it, so every way up ends;
 // a find halves the way that it goes, and of two roots the larger goes under the smaller.
+#![tactic(auto)]
+
 ghost use Rattle.std.specs.Prelude.{◌≡◌, ◌<◌, min, max};
 ghost use Rattle.graph.specs.Forest.{put};
 ghost use Rattle.forest.specs.Arrays.{places};

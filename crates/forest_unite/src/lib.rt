@@ -1,5 +1,7 @@
 // What a link does to a forest in arrays: roots.rt says which root goes under which, and each function here stores into one array. Parents
 // are never shortened: a link stores one parent, that of a root.
+#![tactic(auto)]
+
 pub mod roots; // roots.rt: which root goes under which
 
 ghost use Rattle.std.specs.Prelude.{◌≡◌, slice_set};

@@ -1,5 +1,7 @@
 // Walks in a forest of RULES 3: from a cell to its root along the parents, in at most `limit` steps, without a cut and at a cut.
 // Those that end in `_inside` are told that parents are cells, and ask nothing at a step; the others are total.
+#![tactic(auto)]
+
 ghost use Rattle.std.specs.Prelude.{◌≡◌, ◌<◌, length};
 ghost use Rattle.forest.specs.Arrays.{places, parent_in, label_in, parent_at_in, walk_of, walk_at_of_lem, roots_of, ParentsAreCells};
 

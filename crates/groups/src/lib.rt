@@ -1,5 +1,7 @@
 // The groups call: of each cell of a book what its group in the window is, to the fronts of three lent outputs (RULES 8.9). The number is
 // asked first; where that is 0 the groups are found and put, and else nothing changes.
+#![tactic(auto)]
+
 ghost use Rattle.std.specs.Prelude.{◌≤◌, ◌≡◌, length};
 ghost use Rattle.numbers.specs.Front.{at_front};
 ghost use Rattle.book_state.specs.Order.{book_of};

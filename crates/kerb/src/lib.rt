@@ -3,6 +3,8 @@
 // numbers, one record's bytes, and what a caller's header must agree with. The calls over a book have crates of their own: opening
 // and play, link and clock (`kerb_time`), joined, chain, groups, slides; those over whole link files are in `kerb_file`. The archive
 // libkerb.a is made of them all.
+#![tactic(auto)]
+
 ghost use Rattle.std.specs.Prelude.{◌≡◌, length, replicate};
 ghost use Rattle.cells.specs.Cell.{sectors, ring_of, sector_of, lorry_cell_of, unit_cell_of};
 ghost use Rattle.book_state.specs.Order.{never_opened_of};

@@ -1,5 +1,7 @@
 // The interface for C and Rust, continued: the calls over whole link files. What each gives, and what the output holds at the end, is
 // what its definition says, for every input.
+#![tactic(auto)]
+
 ghost use Rattle.std.specs.Prelude.{◌≡◌, length};
 ghost use Rattle.file.specs.Format.{read_of};
 ghost use Rattle.file_write.specs.Writer.{write_number, output_of};

@@ -1,5 +1,7 @@
 // The interface for C and Rust: the two lamps. It takes one shared reference to the book and lends its fields on where they stand; what it
 // gives is what its definition says, for every input. The proof is a walk of the code, written by tools/walk.py.
+#![tactic(auto)]
+
 ghost use Rattle.std.specs.Prelude.{◌≡◌};
 ghost use Rattle.lamps.specs.Lamps.{lamps_of};
 

@@ -1,5 +1,7 @@
 // The interface for C and Rust, continued: text lists into link files and out of them. What each call gives, and what the output holds at
 // the end, is what its definition says, for every input.
+#![tactic(auto)]
+
 ghost use Rattle.text_list.specs.Call.{text_in_of, GivesTextIn, text_out_of, GivesTextOut};
 
 use settings::Settings;

@@ -4,6 +4,8 @@
 //
 // Link and clock are one crate for the sake of the stack. In an object with both, the step of time stays a function of its own, and its
 // arrays are not on the stack while number 1 is asked.
+#![tactic(auto)]
+
 ghost use Rattle.std.specs.Prelude.{◌≡◌};
 ghost use Rattle.slides.specs.Clock.{time_of};
 ghost use Rattle.book.specs.Calls.{Gives, link_of, clock_of};

@@ -2,6 +2,8 @@
 //
 // A program in Rattle has no exit status to give. Where the input cannot be read nothing is listed, and standard error says so;
 // it says so too where the listing cannot be written. The script `kerblist` makes statuses of that.
+#![tactic(auto)]
+
 use libc::{STDERR_FILENO, STDIN_FILENO, STDOUT_FILENO};
 
 // One byte more than the longest link file has tells that a file is too long.

@@ -1,5 +1,7 @@
 // The two lamps: each is lit where its zone has a cell that is an end of a link of the window and joined to no body cell (RULES 11). The
 // window's links are gone over once, by the crate window_ends; which of them chain what is told by the smallest cells of groups.
+#![tactic(auto)]
+
 mod body; // body.rt: the body mask, and the groups that it marks
 mod zone; // zone.rt: the lamp of a zone
 

@@ -1,4 +1,6 @@
 // What a book opens with and a link file carries: window width n, slide length B, mounting, first tick T0.
+#![tactic(auto)]
+
 ghost use Rattle.std.specs.Prelude.{◌≡◌};
 ghost use Rattle.settings.specs.Settings.{settings_number, fitting_of};
 

@@ -1,4 +1,6 @@
 // The clock's few numbers, and what follows from them: the time, the slide of a tick, the chunk and the place of a slide.
+#![tactic(auto)]
+
 ghost use Rattle.std.specs.Prelude.{◌≡◌, true, false};
 ghost use Rattle.slides.specs.Counter.{counter_at_of};
 ghost use Rattle.slides.specs.Clock.{time_of, difference_of, not_before_of, total_with_of, slide_of, ticks_if, ticks_of, open_slide_of, chunk_of, place_of, started, clock_in_range};

@@ -1,4 +1,6 @@
 // The step that moves time: a clock at a tick. Time never moves back.
+#![tactic(auto)]
+
 ghost use Rattle.std.specs.Prelude.{◌≡◌};
 ghost use Rattle.slides.specs.Clock.{moved_to};
 

@@ -1,5 +1,7 @@
 // Text into a lent output: words, values in decimal, and lines of them. Each function writes from the place `at` and gives the
 // place after its last byte, so that what is written one after the other is one text.
+#![tactic(auto)]
+
 ghost use Rattle.std.specs.Prelude.{◌≡◌, ◌+◌, ◌<◌, ◌≤◌, [], ◌∷◌, ◌++◌, length};
 ghost use Rattle.text.specs.Text.{decimal, fields, line};
 ghost use Rattle.text.specs.Output.{WrittenAt};

@@ -1,4 +1,6 @@
 // The links of the current window, newest slide first. Of a book, a window takes the clock and the counts alone.
+#![tactic(auto)]
+
 mod links; // links.rt: the links of a slide into arrays
 
 ghost use Rattle.std.specs.Prelude.{◌≡◌, ◌≤◌};

@@ -1,6 +1,8 @@
 // The ends of the window's links, and which cells those links chain together, in one pass over the window. The links are joined in
 // scratch parents as they stand in the log, and each marks its two ends; of two roots the smaller stays on top, so that in the end the root
 // of a cell is the smallest cell of its group.
+#![tactic(auto)]
+
 ghost use Rattle.std.specs.Prelude.{◌≡◌, [], ◌+◌, ◌*◌, ◌≤◌, length};
 ghost use Rattle.book_state.specs.Log.{Readable, keep, links_at};
 ghost use Rattle.forest_scratch.specs.Scratch.{Descends};

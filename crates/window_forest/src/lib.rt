@@ -1,4 +1,6 @@
 // The labelled forest of the window's links, grown from the arrays into which they are gathered.
+#![tactic(auto)]
+
 ghost use Rattle.std.specs.Prelude.{◌≤◌, ◌≡◌};
 ghost use Rattle.window.specs.Gathered.{array_links};
 ghost use Rattle.window_forest.specs.LinkForest.{grown_from};

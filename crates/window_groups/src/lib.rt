@@ -1,5 +1,7 @@
 // The groups of a window: cells that its links chain together. A group is a tree of the forest of those links, so what is told of
 // a cell's group is read off the forest, at the cell's root.
+#![tactic(auto)]
+
 mod trees; // trees.rt: what the trees of a forest tell
 
 ghost use Rattle.std.specs.Prelude.{◌≡◌};
