@@ -21,11 +21,11 @@ between_sym : {a b : ℕ} {l : Link} → Between a b l → Between b a l
 between_sym (along p q) = against p q
 between_sym (against p q) = along p q
 
-pub linked_sym : {ls : List Link} {a b : ℕ} → Linked a b ls → Linked b a ls
+pub linked_sym : {a b : ℕ} {ls : List Link} → Linked a b ls → Linked b a ls
 linked_sym (here x) = here (between_sym x)
 linked_sym (there h) = there (linked_sym h)
 
-pub linked_left : {ls : List Link} (ms : List Link) {a b : ℕ} → Linked a b ls → Linked a b (ls ++ ms)
+pub linked_left : {a b : ℕ} {ls : List Link} (ms : List Link) → Linked a b ls → Linked a b (ls ++ ms)
 linked_left ms (here x) = here x
 linked_left ms (there h) = there (linked_left ms h)
 
@@ -160,6 +160,7 @@ taken_met {from} {to} {m} {n} = go (eqb m from) (eqb n from) refl refl
 
 linked_group : (ls : List Link) (a b : ℕ) → Linked a b ls → group ls a ≡ group ls b
 unfolding group
+linked_group [] a b h = elim h [ ]
 linked_group (l ∷ ls) a b (here (along p q)) = rw (← p, ← q) (taken_ends (group ls l.one) (group ls l.other))
 linked_group (l ∷ ls) a b (here (against p q)) =
     rw (← p, ← q) (sym (taken_ends (group ls l.one) (group ls l.other)))

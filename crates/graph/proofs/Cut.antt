@@ -54,7 +54,7 @@ merged_step {P} {f} {child} {top} label h p c s = go (ℕ_discrete c child) s
     go (no n) (goes r q) =
         goes (rw (put_other child top f.parent c n) r) (rw (put_other child label f.label c n) q)
 
-united_step : {P : ℕ → Type 0} {k limit : ℕ} {f f' : Forest} {x : Labelled} → United k limit f x f' → P x.label →
+united_step : {P : ℕ → Type 0} {k limit : ℕ} {f : Forest} {x : Labelled} {f' : Forest} → United k limit f x f' → P x.label →
     ((c : ℕ) → Step P f c) → (c : ℕ) → Step P f' c
 united_step (kept _) p on c = on c
 united_step {x} (merges _ h) p on c = merged_step x.label h p c (on c)
@@ -72,7 +72,7 @@ uncut : (f : Forest) (cut c : ℕ) → Step (λ l. cut ≤ l) f c → parent_at 
 uncut f cut c (stays e _) = root_at_lem f cut c e ∙ sym e
 uncut f cut c (goes _ p) = rw (le-ltb (f.label c) cut p)
 
-united_cut : {k limit : ℕ} {f f' : Forest} {x : Labelled} → United k limit f x f' → (cut : ℕ) → x.label < cut →
+united_cut : {k limit : ℕ} {f : Forest} {x : Labelled} {f' : Forest} → United k limit f x f' → (cut : ℕ) → x.label < cut →
     (c : ℕ) → parent_at f' cut c ≡ parent_at f cut c
 united_cut (kept _) cut l c = refl
 united_cut {f} {x} (merges {child} {top} _ h) cut l c = go (ℕ_discrete c child)

@@ -18,7 +18,7 @@ use Rattle.graph.proofs.Sizes.{total, total_put}
 -- ---- no cell twice
 
 -- from each of its cells on a trail leads, and is no longer
-onward : {ls : List Link} {a b : ℕ} {cs : List ℕ} → Trail ls b a cs → (i : ℕ) → i < length cs →
+onward : {ls : List Link} {b a : ℕ} {cs : List ℕ} → Trail ls b a cs → (i : ℕ) → i < length cs →
     (ds : List ℕ) × Trail ls b (get_or cs i 0) ds × (length ds ≤ length cs)
 onward {cs = cs} (arrive e) zero within = (cs, arrive e, le_refl _)
 onward (arrive e) (suc i) within = absurd (omega arith)
@@ -28,7 +28,7 @@ onward (step h t) (suc i) within =
     (ds, u, le_trans le (le-suc _))
 
 -- a trail that no trail is shorter than
-none_twice : {ls : List Link} {a b : ℕ} {cs : List ℕ} → Trail ls b a cs → ((ds : List ℕ) → Trail ls b a ds → length cs ≤ length ds) →
+none_twice : {ls : List Link} {b a : ℕ} {cs : List ℕ} → Trail ls b a cs → ((ds : List ℕ) → Trail ls b a ds → length cs ≤ length ds) →
     NoneTwice cs
 none_twice (arrive e) fewest i j before within same = omega arith
 none_twice (step h t) fewest i zero before within same = omega arith
@@ -85,7 +85,7 @@ module _ (n : ℕ) where
   Inside ls = (x y : ℕ) → Linked x y ls → x < n
 
   -- each cell of a trail over such links is below n
-  cells_below : {ls : List Link} {a b : ℕ} {cs : List ℕ} → Inside ls → a < n → Trail ls b a cs → (i : ℕ) → i < length cs → get_or cs i 0 < n
+  cells_below : {ls : List Link} {b a : ℕ} {cs : List ℕ} → Inside ls → a < n → Trail ls b a cs → (i : ℕ) → i < length cs → get_or cs i 0 < n
   cells_below inside below (arrive e) zero within = below
   cells_below inside below (arrive e) (suc i) within = absurd (omega arith)
   cells_below inside below (step h t) zero within = below

@@ -8,7 +8,7 @@ use native.Mathlib.Nat.{le_antisymm, le_refl, le-suc, le_trans, min-le_left, min
 use native.Mathlib.Decide.{dec_le}
 use native.Mathlib.Omega.{arith}
 use mathlib.Core.Path.{◌≡◌, refl, sym, ◌∙◌, ap}
-use mathlib.Core.Bool.{Bool, true, cond}
+use mathlib.Core.Bool.{Bool, true, false, cond}
 use mathlib.Core.List.{List, [], ◌∷◌, ◌++◌}
 use mathlib.Core.Logic.{◌⊎◌, inl, inr, ⊎_elim}
 use mathlib.Core.Option.{Option, none, some, none-ne-some, some-injective}
@@ -67,6 +67,8 @@ record Parts (n : ℕ) (x y : Option ℕ) : Type 0 where
 
 through_parts : {n : ℕ} (x y : Option ℕ) → Within n (through x y) → Parts n x y
 unfolding through
+through_parts none y w = elim w [ ]
+through_parts (some i) none w = elim w [ ]
 through_parts (some i) (some j) (within h) =
     record { before = i; after = j; reached = within (le_refl i); onward = within (le_refl j); sum = h }
 
@@ -130,7 +132,7 @@ crossing ls {n} e w =
     record { before = 0; after = n; reached = near_same ls (sym e); onward = w; sum = omega arith }
 
 -- across a link the count rises by at most one
-near_step : {ls : List Link} {n a c : ℕ} (b : ℕ) → Linked a c ls → Near ls n c b → Near ls (suc n) a b
+near_step : {a c : ℕ} {ls : List Link} {n : ℕ} (b : ℕ) → Linked a c ls → Near ls n c b → Near ls (suc n) a b
 near_step b (there {l} h) w =
     ways_near (elim (near_ways w) [
       | without v ↦ without (near_step b h v)
@@ -151,7 +153,7 @@ near_step {n = n} b (here (against p q)) w =
     ])
 
 -- so the count is at most the links of any trail
-trail_near : {ls : List Link} {a b : ℕ} {cs : List ℕ} → Trail ls b a cs → (n : ℕ) × (length cs ≡ suc n) × Near ls n a b
+trail_near : {ls : List Link} {b a : ℕ} {cs : List ℕ} → Trail ls b a cs → (n : ℕ) × (length cs ≡ suc n) × Near ls n a b
 trail_near {ls} (arrive e) = (0, refl, near_same ls e)
 trail_near {b = b} (step h t) =
     let (n, long, w) = trail_near t in
@@ -179,6 +181,7 @@ near_none {n} {a} {b} = go (eqb a b) refl
   where
     go : (t : Bool) → eqb a b ≡ t → Within n (cond t (some 0) none) → a ≡ b
     go true e w = eqb-true a b e
+    go false e w = elim w [ ]
 
 near_trail : (ls : List Link) {n a b : ℕ} → Near ls n a b → Short ls n a b
 near_trail [] {a = a} w = (a ∷ [], arrive (near_none w), suc-le-suc zero-le)

@@ -7,14 +7,14 @@ use Prim.Native.Nat.{ℕ, zero, suc, ◌≤◌}
 use native.Mathlib.Nat.{le_antisymm, le_refl, le_trans, not-suc-le-zero, suc_inj}
 use native.Mathlib.Omega.{arith}
 use mathlib.Core.Path.{◌≡◌, refl, sym, ◌∙◌, ap}
-use mathlib.Core.Bool.{Bool, true, cond, false≢true}
+use mathlib.Core.Bool.{Bool, true, false, cond, false≢true}
 use mathlib.Core.List.{List, [], ◌∷◌}
 use mathlib.Core.Logic.{⊎_elim}
 use mathlib.Core.Option.{Option, none, some}
 use lib.Dec.{eqb}
 use lib.ListN.{length}
 use borrow.Author.Tests.{eqb-true, eq-eqb}
-use Rattle.graph.specs.Link.{Link, along, against, Linked, here, there, Chained, same}
+use Rattle.graph.specs.Link.{Link, along, against, Linked, here, there, Chained}
 use Rattle.graph.specs.Trail.{Trail, arrive, step, Best, smaller, fewest_links}
 use Rattle.graph.specs.Trail.{is_some, offered, next_cell_of, descend, trail_of_links, trail_of}
 use Rattle.graph.proofs.Chains.{Relinks, chained_relink, chained?}
@@ -64,12 +64,14 @@ module _ (all : List Link) (b k a : ℕ) where
 
   offered_is : {n : ℕ} (t : Bool) (c : ℕ) → Within n (offered all b k t c) → (t ≡ true) × (c ≤ n) × Left c
   unfolding offered
+  offered_is false c w = elim w [ ]
   offered_is {n} true c w = go (is_some (fewest_links all c b) k) refl w
     where
       go :
           (t : Bool) → is_some (fewest_links all c b) k ≡ t →
           Within n (cond t (some c) none) → (true ≡ true) × (c ≤ n) × Left c
       go true e (within h) = (refl, h, some_is (fewest_links all c b) e)
+      go false e w = elim w [ ]
 
   -- what a link offers from its one end to its other, and back
   abbrev forth : Link → Option ℕ
@@ -79,7 +81,7 @@ module _ (all : List Link) (b k a : ℕ) where
   back l = offered all b k (eqb l.other a) l.one
 
   -- the next cell is at most any cell that a link joins with a and from which k links lead on
-  next_within : {ls : List Link} {c : ℕ} → Linked a c ls → Left c → Within c (next_cell_of all b k a ls)
+  next_within : {c : ℕ} {ls : List Link} → Linked a c ls → Left c → Within c (next_cell_of all b k a ls)
   unfolding next_cell_of
   next_within (here {l} {ls} (along p q)) e =
       smaller_left (smaller (back l) (next_cell_of all b k a ls)) (offered_within (eq-eqb l.one a p) q e)
@@ -107,6 +109,7 @@ module _ (all : List Link) (b k a : ℕ) where
   -- and it is such a cell
   next_is : {n : ℕ} (ls : List Link) → Within n (next_cell_of all b k a ls) → Next ls n
   unfolding next_cell_of
+  next_is [] w = elim w [ ]
   next_is (l ∷ ls) w =
       ⊎_elim (next_forth l ls)
       (λ v.

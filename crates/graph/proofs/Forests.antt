@@ -12,7 +12,7 @@ use native.Mathlib.Omega.{arith}
 use native.Mathlib.Decide.{ℕ_discrete, dec_le}
 use native.Mathlib.Nat.{le_trans}
 use borrow.Author.Tests.{eq-eqb, ne_eqb, lt-ltb, le-ltb}
-use Rattle.graph.specs.Link.{Link, Between, along, against, Linked, here, there, Chained, same, more}
+use Rattle.graph.specs.Link.{Link, Between, along, against, Linked, here, there, Chained, same}
 use Rattle.graph.specs.Forest.{Forest, walk, put, goes_under_of, merged, join_roots, Labelled, unite, forest_of}
 use Rattle.graph.specs.Forest.{empty, also, EndsBelow}
 use Rattle.graph.proofs.Chains.{chained_sym, chained_trans, chained_agree, chained_there, chained_one}
@@ -108,7 +108,7 @@ module _ {k limit : ℕ} (enough : k ≤ limit) where
       go (no n) = rw (ne_eqb a b n) (apart (goes_under_of f.size a b) n refl)
 
   -- one link more keeps any forest grown, whatever made it
-  pub united_grown : {f f' : Forest} {x : Labelled} → Grown k f → United k limit f x f' → Grown k f'
+  pub united_grown : {f : Forest} {x : Labelled} {f' : Forest} → Grown k f → United k limit f x f' → Grown k f'
   united_grown g (kept _) = g
   united_grown {x} g (merges _ h) = merged_grown g h x.label
 
@@ -126,7 +126,7 @@ module _ {k limit : ℕ} (enough : k ≤ limit) where
       ap (λ w. w.root) (way_climb way limit (le_trans (way_short (merged_grown g h label).doubles way) enough)) ∙ root
 
   -- a cell that was chained with its root is chained with its new one
-  united_chained : {f f' : Forest} {x : Labelled} {ls : List Link} → Grown k f → United k limit f x f' →
+  united_chained : {f : Forest} {x : Labelled} {f' : Forest} {ls : List Link} → Grown k f → United k limit f x f' →
       ((c : ℕ) → Chained ls c (walk limit f c).root) → (c : ℕ) → Chained (x.link ∷ ls) c (walk limit f' c).root
   united_chained g (kept _) on c = chained_there _ (on c)
   united_chained {f} {x} {ls} g (merges {child} {top} b h) on c =
@@ -143,13 +143,13 @@ module _ {k limit : ℕ} (enough : k ≤ limit) where
           (chained_trans (chained_one (here (along refl refl))) (chained_there _ (on _)))
 
   -- two cells that had one root still have, and the link's ends have one now
-  united_same : {f f' : Forest} {x : Labelled} → Grown k f → United k limit f x f' → (a b : ℕ) →
+  united_same : {f : Forest} {x : Labelled} {f' : Forest} → Grown k f → United k limit f x f' → (a b : ℕ) →
       (walk limit f a).root ≡ (walk limit f b).root → (walk limit f' a).root ≡ (walk limit f' b).root
   united_same g (kept _) a b e = e
   united_same {x} g (merges {child} {top} _ h) a b e =
       merged_root g h x.label a ∙ ap (put child top (λ r. r)) e ∙ sym (merged_root g h x.label b)
 
-  united_ends : {f f' : Forest} {x : Labelled} → Grown k f → United k limit f x f' →
+  united_ends : {f : Forest} {x : Labelled} {f' : Forest} → Grown k f → United k limit f x f' →
       (roots_of limit f' x).one ≡ (roots_of limit f' x).other
   united_ends g (kept e) = e
   united_ends {x} g (merges b h) =

@@ -5,7 +5,7 @@
 use Prim.Native.Nat.{ℕ, suc, ◌≤◌, ◌<◌, suc-le-suc}
 use native.Mathlib.Nat.{le_antisymm, le_of_suc-le-suc, suc_inj, eq-or-lt_of_le}
 use native.Mathlib.Omega.{arith}
-use mathlib.Core.Path.{◌≡◌, refl, sym, ap, ap₂, subst}
+use mathlib.Core.Path.{◌≡◌, refl, sym, ap, ap₂}
 use mathlib.Core.List.{List, [], ◌∷◌, ◌++◌, Memᴰ}
 use mathlib.Core.Logic.{◌⊎◌, inl, inr}
 use lib.ListN.{length}
@@ -15,13 +15,13 @@ use Rattle.graph.proofs.Chains.{Relinks, linked_sym, chained_one, chained_trans}
 
 -- Trails
 
-pub trail_chained : {ls : List Link} {a b : ℕ} {cs : List ℕ} → Trail ls b a cs → Chained ls a b
+pub trail_chained : {ls : List Link} {b a : ℕ} {cs : List ℕ} → Trail ls b a cs → Chained ls a b
 trail_chained (arrive e) = same e
 trail_chained (step h t) = chained_trans (chained_one h) (trail_chained t)
 
 -- two trails with a link between them are one trail
 pub trail_join :
-    {ls : List Link} {a b c d : ℕ} {cs ds : List ℕ} →
+    {ls : List Link} {c a b d : ℕ} {cs ds : List ℕ} →
     Trail ls c a cs → Linked c d ls → Trail ls b d ds → Trail ls b a (cs ++ ds)
 trail_join (arrive e) h u = step (rw (← e) at h) u
 trail_join (step k t) h u = step k (trail_join t h u)
@@ -33,7 +33,7 @@ chained_trail (more {c = c} x h) =
     (t.0 ++ (c ∷ []), trail_join t.1 h (arrive refl))
 
 -- trails depend on which pairs are linked, and on nothing else of the list
-pub trail_relink : {ls ms : List Link} {a b : ℕ} {cs : List ℕ} → Relinks ls ms → Trail ls b a cs → Trail ms b a cs
+pub trail_relink : {ls ms : List Link} {b a : ℕ} {cs : List ℕ} → Relinks ls ms → Trail ls b a cs → Trail ms b a cs
 trail_relink f (arrive e) = arrive e
 trail_relink f (step h t) = step (f _ _ h) (trail_relink f t)
 
@@ -53,9 +53,10 @@ trail_single (step h t) long = absurd (omega (arith, trail_one t))
 
 -- each cell of a trail that a link leads to is an end of a link
 linked_after :
-    {ls : List Link} {a b c x : ℕ} {cs : List ℕ} →
+    {ls : List Link} {b a c x : ℕ} {cs : List ℕ} →
     Linked c a ls → Trail ls b a cs → Memᴰ x cs → (y : ℕ) × Linked x y ls
 linked_after {c = c} h (arrive e) (Memᴰ.head p) = (c, rw p (linked_sym h))
+linked_after h (arrive e) (Memᴰ.tail m) = elim m [ ]
 linked_after {c = c} h (step k t) (Memᴰ.head p) = (c, rw p (linked_sym h))
 linked_after h (step k t) (Memᴰ.tail m) = linked_after k t m
 
