@@ -7,7 +7,7 @@ use mathlib.Core.Logic.{⊎_elim}
 use native.Mathlib.Decide.{ℕ_discrete, dec_le}
 use native.Mathlib.Nat.{eq-or-lt_of_le, le_refl, le_of_lt, le_antisymm}
 use native.Mathlib.Omega.{arith}
-use borrow.Author.Rules.{zero≤}
+use Prim.Native.Nat.{zero-le}
 use lib.ListN.{length, get_or, set, take, replicate, length-set, length-replicate, get_or-replicate, take-append-drop}
 use lib.Seq.{length-take-le, get_or-take, get_or-set_same, get_or-set_other, ext_get_or}
 use Rattle.buckets.specs.Listed.{FirstFrom, AllBelow, Listed, AllListed}
@@ -112,4 +112,4 @@ one_listing {keys} {first} {next} {first₁} {next₁} {first₂} {next₂} p q 
         ext_get_or 0 (take n next₁) (take n next₂) (long ∙ sym (length-take-le n next₂ k.next_long))
         (λ i h.
         let h' : i < n = rw long at h in
-        get_or-take n next₁ i 0 h' ∙ first_same (l.next_of i zero≤ h') (k.next_of i zero≤ h') ∙ sym (get_or-take n next₂ i 0 h'))
+        get_or-take n next₁ i 0 h' ∙ first_same (l.next_of i zero-le h') (k.next_of i zero-le h') ∙ sym (get_or-take n next₂ i 0 h'))
