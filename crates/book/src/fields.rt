@@ -10,7 +10,7 @@ use settings::Settings;
 
 // What a call over lent fields gives: the clock and the fitting after it, and the number of the table.
 #[repr(C)]
-#[derive(Drop)]
+#[derive(Clone, Copy)]
 pub struct FieldsAnswer {
     pub clock: slides::Clock,
     pub fitting: Fitting,

@@ -18,7 +18,7 @@ use slides::Clock;
 
 // What joined gives.
 #[repr(C)]
-#[derive(Drop)]
+#[derive(Clone, Copy)]
 pub struct JoinedAnswer {
     pub number: u8,
     pub yes: bool,

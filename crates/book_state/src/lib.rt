@@ -28,7 +28,7 @@ pub fn are_cells(one: u16, other: u16) -> bool
 
 // The settings and the total of the ticks, the links stored in each place of the last two chunks, and the two forests.
 #[repr(C)]
-#[derive(Drop)]
+#[derive(Clone, Copy)]
 pub struct Book {
     // forward forest of the open chunk
     pub forward_parent: [u16; PLACES],

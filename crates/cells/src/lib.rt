@@ -7,7 +7,7 @@ ghost use Rattle.cells.specs.Touching.{difference, touch};
 
 // How a unit is fitted to its lorry (RULES 1.3).
 #[repr(C)]
-#[derive(Drop)]
+#[derive(Clone, Copy)]
 pub struct Fitting {
     // 1 plain, 2 mirrored; 0 means that it was never set
     pub mounting: u8,

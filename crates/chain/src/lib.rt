@@ -13,7 +13,7 @@ use slides::Clock;
 
 // What the chain call gives; with a number that is not 0 all else is 0.
 #[repr(C)]
-#[derive(Drop)]
+#[derive(Clone, Copy)]
 pub struct ChainAnswer {
     // L, the newest slide from which on links chain the two. A slide is told by its total: the ticks come again (RULES 2.4)
     pub newest: u64,

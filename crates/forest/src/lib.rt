@@ -9,7 +9,7 @@ ghost use Rattle.forest.specs.Arrays.{places, fresh_parents_of, fresh_sizes_of, 
 pub const PLACES: usize = 1024;
 
 // Where a walk ends, and its parent steps.
-#[derive(Drop)]
+#[derive(Clone, Copy)]
 pub struct Walk {
     pub root: u16,
     pub steps: u8,

@@ -10,7 +10,7 @@ ghost use Rattle.forest_scratch.specs.Scratch.{Descends, find_of, roots_of, join
 use forest::PLACES;
 
 // The roots of two cells.
-#[derive(Drop)]
+#[derive(Clone, Copy)]
 pub struct Roots {
     pub one: u16,
     pub other: u16,

@@ -11,7 +11,7 @@ use forest::PLACES;
 
 // What a link does to a forest. Where its ends have different roots, the root `child` goes under
 // the root `top`, whose tree then has `size` cells. Otherwise nothing does, and the numbers are 0.
-#[derive(Drop)]
+#[derive(Clone, Copy)]
 pub struct Merge {
     pub different: bool,
     pub child: u16,

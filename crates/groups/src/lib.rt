@@ -16,7 +16,7 @@ use slides::Clock;
 
 // What the call gives: how many links the window holds, repeats counted, and the number of the table.
 #[repr(C)]
-#[derive(Drop)]
+#[derive(Clone, Copy)]
 pub struct GroupsAnswer {
     pub links: u32,
     pub number: u8,
@@ -71,7 +71,7 @@ fn put_groups(
     let groups = window_groups::of_window(clock, counts, log);
     put_front(&groups.first, first);
     put_front(&groups.count, size);
-    bytes::copy(&groups.hold, hold);
+    octets::copy(&groups.hold, hold);
     GroupsAnswer {
         links: groups.links as u32,
         number: 0,

@@ -21,7 +21,7 @@ use slides::Clock;
 pub const CELLS: usize = 1024;
 
 // Whether a lamp is lit, and the smallest cell that lights it; 0 while it is dark.
-#[derive(Drop)]
+#[derive(Clone, Copy)]
 pub struct Lamp {
     pub cell: u16,
     pub lit: bool,
@@ -30,7 +30,7 @@ pub struct Lamp {
 // What the call gives: whether each lamp is lit, and the smallest cell that lights it; 0 while it is dark. With a number that is not
 // 0 all else is 0.
 #[repr(C)]
-#[derive(Drop)]
+#[derive(Clone, Copy)]
 pub struct LampsAnswer {
     pub left_cell: u16,
     pub right_cell: u16,

@@ -7,7 +7,7 @@ ghost use Rattle.settings.specs.Settings.{settings_number, fitting_of};
 use cells::Fitting;
 
 #[repr(C)]
-#[derive(Drop)]
+#[derive(Clone, Copy)]
 pub struct Settings {
     // T0, the first tick
     pub t0: u32,

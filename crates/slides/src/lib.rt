@@ -8,7 +8,7 @@ ghost use Rattle.slides.specs.Clock.{time_of, difference_of, not_before_of, tota
 use settings::Settings;
 
 #[repr(C)]
-#[derive(Drop)]
+#[derive(Clone, Copy)]
 pub struct Clock {
     // the total: how many ticks have passed since T0, each turn of the unit's counter counted. The time follows from it
     pub total: u64,
@@ -132,7 +132,7 @@ pub fn open_slide(clock: Clock) -> u64
 
 // The totals of a slide, from the first to the last, where the counter stands at these two, and whether there are any; else all are 0.
 #[repr(C)]
-#[derive(Drop)]
+#[derive(Clone, Copy)]
 pub struct SlideTicks {
     pub first_total: u64,
     pub last_total: u64,

@@ -18,7 +18,7 @@ pub fn put_word(word: &[u8], out: &mut [u8], at: usize) -> usize
     requires { at + length word.now ≤ length out.old }
     ensures { WrittenAt word.now at out.old result out.new }
 {
-    at + bytes::copy(word, &mut out[at..])
+    at + octets::copy(word, &mut out[at..])
 }
 
 // How many digits a value has in decimal.

@@ -15,7 +15,7 @@ use forest_scratch::join;
 use slides::Clock;
 
 // Of each cell, the smallest cell of its group, and 1 where it is an end of a link, else 0.
-#[derive(Drop)]
+#[derive(Clone, Copy)]
 pub struct Ends {
     pub first: [u16; PLACES],
     pub linked: [u8; PLACES],

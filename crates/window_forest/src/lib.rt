@@ -9,7 +9,7 @@ use book_state::STEP_LIMIT;
 use forest::PLACES;
 
 // A forest of links: of each cell its parent, and the label of the step to it.
-#[derive(Drop)]
+#[derive(Clone, Copy)]
 pub struct LinkForest {
     pub parent: [u16; PLACES],
     pub label: [u8; PLACES],

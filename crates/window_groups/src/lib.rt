@@ -14,7 +14,7 @@ use slides::Clock;
 
 // Of each cell, what its group is: its smallest cell, how many cells it has, and the least hold over its pairs. And how many links
 // the window has.
-#[derive(Drop)]
+#[derive(Clone, Copy)]
 pub struct Groups {
     pub first: [u16; PLACES],
     pub count: [u16; PLACES],

@@ -19,7 +19,7 @@ fn lower_label(cell: u16, parent: u16, label: u8, least: u8) -> u8
 }
 
 // Of each root's tree: its smallest cell, how many cells it has, and the smallest label of a parent step in it.
-#[derive(Drop)]
+#[derive(Clone, Copy)]
 pub struct Tallies {
     pub first: [u16; PLACES],
     pub count: [u16; PLACES],

@@ -10,8 +10,7 @@ use lib.Dec.{ltb}
 use lib.ListN.{length, get_or}
 use Rattle.forest.specs.Arrays.{label_in, parent_at_in}
 use Rattle.forest.proofs.Fill.{get_d_within}
-use Rattle.forest_walk.proofs.up_inside.Statement.{statement}
-use Rattle.forest_walk.proofs.up_inside.Tie as tie
+use Rattle.forest_walk.proofs.up_inside.Goals as goal
 
 stays_anyway : (t : Bool) (c : ℕ) → c ≡ cond t c c
 stays_anyway true c = refl
@@ -22,18 +21,11 @@ root_stays ps ls cut c h e =
     let below = ltb (label_in ls c) cut in
     stays_anyway below c ∙ ap (cond below c) (sym (get_d_within ps c c 0 h ∙ e))
 
-returns : tie.Need-returns
-returns c =
-    let start = c.before.before in
-    root_stays start.args.parent.now start.args.label.now _ _ start.requires.0 c.if1.true
+pub returns-then-above-cell : goal.returns-then-above-cell
+returns-then-above-cell c = root_stays c.args.parent.now c.args.label.now _ _ c.requires.0 c.if-above-cell.true
 
-returns-2 : tie.Need-returns-2
-returns-2 c = simp (lt-ltb _ _ c.if2.true)
+pub returns-then-label-at : goal.returns-then-label-at
+returns-then-label-at c = simp (lt-ltb _ _ c.if-label-at.true)
 
-returns-3 : tie.Need-returns-3
-returns-3 c =
-    let start = c.before.before.before.before in
-    simp (le-ltb _ _ c.if2.false) (get_d_within start.args.parent.now _ 0 _ start.requires.0)
-
-pub up_inside_spec : {M : Type 1} → statement M
-up_inside_spec = tie.close (tie.spec (λ c. search rules) (λ c. search rules) returns (λ c. search rules) returns-2 returns-3)
+pub returns : goal.returns
+returns c = simp (le-ltb _ _ c.if-label-at.false) (get_d_within c.args.parent.now _ 0 _ c.requires.0)
