@@ -8,3 +8,7 @@ use Rattle.slides.proofs.open_slide.Goals as goal
 pub returns-then-b-eq0 : goal.returns-then-b-eq0
 unfolding open_slide_of
 returns-then-b-eq0 c = simp (c.if-b-eq0.true, div-zero)
+
+pub returns : goal.returns
+unfolding open_slide_of
+returns c = refl
