@@ -25,9 +25,6 @@ parents c = sym c.all_within.ensures ∙ c.if-not-all_within.false
 sizes : (c : Else-not-all_within-2) → (let a = c.args in every (within 1 (length a.parent.now + 1)) 0 a.size.now ≡ true)
 sizes c = sym c.all_within-2.ensures ∙ c.if-not-all_within-2.false
 
-ranges : (c : Else-not-all_within-2) → (let a = c.args in Ranged (length a.parent.now) a.parent.now a.size.now)
-ranges c = ranged _ _ (long c.before.before.before.before) (parents c.before.before) (sizes c)
-
 -- what the quick way has asked
 quick : (c : Then-reaches) → (let a = c.args in (length a.parent.now ≤ places) × (length a.parent.now ≤ 2 ^ a.limit))
 quick c =
@@ -52,7 +49,7 @@ doubles-requires c =
 pub returns-then-doubles : goal.returns-then-doubles
 returns-then-doubles c =
     let doubles = sym c.doubles.ensures ∙ c.if-doubles.true in
-    simp (eq-eqb _ _ (long (goal.at.returns-then-doubles c).Else-size-cells), parents (goal.at.returns-then-doubles c).Else-not-all_within, sizes (goal.at.returns-then-doubles c).Else-not-all_within-2, doubles_end _ _ (ranges (goal.at.returns-then-doubles c).Else-not-all_within-2) doubles _ (quick (goal.at.returns-then-doubles c).Then-reaches).1)
+    simp (eq-eqb _ _ (long (goal.at.returns-then-doubles c).Else-size-cells), parents (goal.at.returns-then-doubles c).Else-not-all_within, sizes (goal.at.returns-then-doubles c).Else-not-all_within-2, doubles_end _ _ (ranged _ _ (long (goal.at.returns-then-doubles c).Else-size-cells) (parents (goal.at.returns-then-doubles c).Else-not-all_within) (sizes (goal.at.returns-then-doubles c).Else-not-all_within-2)) doubles _ (quick (goal.at.returns-then-doubles c).Then-reaches).1)
 
 pub returns : goal.returns
 returns c =

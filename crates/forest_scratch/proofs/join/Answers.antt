@@ -9,7 +9,7 @@ use Rattle.forest_scratch.proofs.join.Goals.{After-larger}
 
 below : (c : After-larger) → c.larger.result < places
 below c =
-    rw c.larger.ensures (child_inside c.requires.descends c.requires.one_lt_places c.find-u.ensures c.find-v.ensures)
+    rw c.larger.ensures (child_inside c.requires.descends c.requires.one_lt_places (c.find-u.ensures.value, c.find-u.ensures.parent_after) (c.find-v.ensures.value, c.find-v.ensures.parent_after))
 
 pub find-v-requires : goal.find-v-requires
 find-v-requires c =
@@ -29,18 +29,14 @@ bounds-parent-larger c = below (goal.at.bounds-parent-larger c).After-larger
 
 pub returns-then-u-v : goal.returns-then-u-v
 returns-then-u-v c =
-    let first = c.find-u.ensures in
-    let second = c.find-v.ensures in
     record {
-      value = roots_made c.requires.descends c.requires.one_lt_places first second;
-      parent_after = apart_made c.requires.descends c.requires.one_lt_places first second c.if-u-v.true c.larger.ensures c.smaller.ensures;
+      value = roots_made c.requires.descends c.requires.one_lt_places (c.find-u.ensures.value, c.find-u.ensures.parent_after) (c.find-v.ensures.value, c.find-v.ensures.parent_after);
+      parent_after = apart_made c.requires.descends c.requires.one_lt_places (c.find-u.ensures.value, c.find-u.ensures.parent_after) (c.find-v.ensures.value, c.find-v.ensures.parent_after) c.if-u-v.true c.larger.ensures c.smaller.ensures;
     }
 
 pub returns-else-u-v : goal.returns-else-u-v
 returns-else-u-v c =
-    let first = c.find-u.ensures in
-    let second = c.find-v.ensures in
     record {
-      value = roots_made c.requires.descends c.requires.one_lt_places first second;
-      parent_after = same_made c.requires.descends c.requires.one_lt_places first second c.if-u-v.false;
+      value = roots_made c.requires.descends c.requires.one_lt_places (c.find-u.ensures.value, c.find-u.ensures.parent_after) (c.find-v.ensures.value, c.find-v.ensures.parent_after);
+      parent_after = same_made c.requires.descends c.requires.one_lt_places (c.find-u.ensures.value, c.find-u.ensures.parent_after) (c.find-v.ensures.value, c.find-v.ensures.parent_after) c.if-u-v.false;
     }
