@@ -1,0 +1,15 @@
+-- `window::gather_newest` meets its contract: the links of the newest `age` slides are put (proofs/Putting.antt), up to as many as are
+-- asked for. The window has no more than 16 slides, each with at most 256 links.
+use Prim.Native.Nat.{◌-◌}
+use borrow.Author.Rules.{rules}
+use native.Mathlib.Omega.{arith}
+use Rattle.window.proofs.Putting.{Putting, putting_none, putting_one, putting_all}
+use Rattle.window.proofs.WindowLinks.{slides_from, slides_all, slide_parts, slide_few}
+use Rattle.window.proofs.gather_newest.Given as goal
+
+abbrev pub invariant-loop-age : goal.invariant-loop-age
+invariant-loop-age l =
+    Putting 256 l.slides (slides_from l.clock l.counts l.log l.slides) 0 l.initial.ones l.initial.others l.initial.labels l.age l.end l.ones l.others l.labels
+
+abbrev pub decreases-loop-age : goal.decreases-loop-age
+decreases-loop-age l = l.slides - l.age
