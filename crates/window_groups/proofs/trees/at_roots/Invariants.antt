@@ -1,0 +1,19 @@
+-- `window_groups::trees::at_roots` meets its contract: three arrays are filled from the front, entry c with what stands at c's root.
+use Prim.Native.Nat.{ℕ, ◌-◌, ◌<◌}
+use mathlib.Core.Path.{◌≡◌, refl}
+use mathlib.Core.List.{List}
+use native.Mathlib.Omega.{arith}
+use lib.ListN.{length}
+use Rattle.forest.proofs.Fill.{Filled, fill_one, fill_each}
+use Rattle.book_state.specs.Arrays.{cells}
+use Rattle.window_groups.specs.Trees.{root_in, at_root, groups_at}
+use Rattle.window_groups.proofs.trees.at_roots.Given as goal
+
+abbrev pub invariant-loop-cell : goal.invariant-loop-cell
+invariant-loop-cell l =
+    Filled (at_root l.root l.tallies.first) cells l.first l.cell
+    × Filled (at_root l.root l.tallies.count) cells l.count l.cell
+    × Filled (λ c. at_root l.root l.tallies.least c - 1) cells l.hold l.cell
+
+abbrev pub decreases-loop-cell : goal.decreases-loop-cell
+decreases-loop-cell l = 1024 - l.cell
