@@ -24,6 +24,8 @@ pub linked_leads :
     (ones others : List ℕ) {a b : ℕ} →
     Linked a b (links_of ones others) → Leads ones others a b ⊎ Leads others ones a b
 unfolding links_of
+linked_leads [] others h = elim h [ ]
+linked_leads (x ∷ xs) [] h = elim h [ ]
 linked_leads (x ∷ xs) (y ∷ ys) (here (along p q)) = inl (leads_first xs ys p q)
 linked_leads (x ∷ xs) (y ∷ ys) (here (against p q)) = inr (leads_first ys xs q p)
 linked_leads (x ∷ xs) (y ∷ ys) (there h) = ⊎_map (leads_more x y) (leads_more y x) (linked_leads xs ys h)
@@ -32,6 +34,7 @@ at_linked :
     (from to : List ℕ) (i : ℕ) → i < length from → length to ≡ length from →
     Linked (get_or from i 0) (get_or to i 0) (links_of from to)
 unfolding links_of
+at_linked [] to i h e = elim h [ ]
 at_linked (x ∷ xs) [] i h e = absurd (omega arith)
 at_linked (x ∷ xs) (y ∷ ys) zero h e = here (along refl refl)
 at_linked (x ∷ xs) (y ∷ ys) (suc i) h e = there (at_linked xs ys i (le_of_suc-le-suc h) (suc_inj e))
@@ -43,6 +46,8 @@ leads_linked {from} {to} e p = rw (← p.starts, ← p.arrives) (at_linked from 
 -- which cells are linked is the same from either side
 pub links_turn : (ones others : List ℕ) → Relinks (links_of ones others) (links_of others ones)
 unfolding links_of
+links_turn [] others a b h = elim h [ ]
+links_turn (x ∷ xs) [] a b h = elim h [ ]
 links_turn (x ∷ xs) (y ∷ ys) a b (here (along p q)) = here (against q p)
 links_turn (x ∷ xs) (y ∷ ys) a b (here (against p q)) = here (along q p)
 links_turn (x ∷ xs) (y ∷ ys) a b (there h) = there (links_turn xs ys a b h)

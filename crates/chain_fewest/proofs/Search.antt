@@ -10,7 +10,7 @@ use native.Mathlib.Decide.{ℕ_discrete}
 use native.Mathlib.Nat.{le_antisymm, le_refl, le_of_suc-le-suc, eq-or-lt_of_le}
 use native.Mathlib.Omega.{arith}
 use mathlib.Core.Path.{◌≡◌, sym, ◌∙◌, ap}
-use mathlib.Core.List.{List, ◌∷◌}
+use mathlib.Core.List.{List, [], ◌∷◌}
 use mathlib.Core.Logic.{◌⊎◌, inl, inr, ⊎_elim, ⊎_map}
 use lib.ListN.{length, get_or, set, length-set}
 use lib.Seq.{get_or-set_same, get_or-set_other}
@@ -31,6 +31,7 @@ pub unknown_set :
     (remaining : List ℕ) (d v : ℕ) →
     d < length remaining → get_or remaining d 0 ≡ 0 → 1 ≤ v → unknown (set remaining d v) + 1 ≡ unknown remaining
 unfolding unknown
+unknown_set [] d v h e p = elim h [ ]
 unknown_set (zero ∷ remaining) zero (suc v) h e p = omega arith
 unknown_set (zero ∷ remaining) zero zero h e p = absurd (omega arith)
 unknown_set (suc x ∷ remaining) zero v h e p = absurd (omega arith)

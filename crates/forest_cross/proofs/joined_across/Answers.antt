@@ -1,6 +1,5 @@
 -- `forest_cross::joined_across` meets its contract: the roots and lists of each forest are a side of the crossing (`grouped_side`), and the
 -- forward forest is the one without a cut (`uncut_keys`).
-use borrow.Author.Rules.{rules}
 use mathlib.Core.Path.{refl, sym, ◌∙◌}
 use Rattle.forest_cross.proofs.Listing.{grouped_side, grouped_long, uncut_keys}
 use Rattle.forest_cross.proofs.joined_across.Goals as goal
@@ -30,14 +29,17 @@ crosses-requires c =
     let given = c.requires in
     let back = c.list_groups.ensures in
     let forth = c.list_groups-2.ensures in
-    let long = grouped_long given.backward_ends back in (
-      record {
-        own_side = grouped_side given.backward_ends back;
-        other_side = grouped_side given.forward_ends forth;
-        even = grouped_long given.forward_ends forth ∙ sym long;
-      },
-      (rw long given.one_cell, rw long given.other_cell),
-    )
+    let long = grouped_long given.backward_ends back in
+    record {
+      sides =
+          record {
+            own_side = grouped_side given.backward_ends back;
+            other_side = grouped_side given.forward_ends forth;
+            even = grouped_long given.forward_ends forth ∙ sym long;
+          };
+      one = rw long given.one_cell;
+      other = rw long given.other_cell;
+    }
 
 pub returns : goal.returns
 returns c =

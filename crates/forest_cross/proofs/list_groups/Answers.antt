@@ -1,10 +1,8 @@
 use Prim.Native.Nat.{◌<◌}
 use mathlib.Core.Path.{◌≡◌, sym, ◌∙◌}
-use borrow.Author.Rules.{rules}
 use native.Mathlib.Omega.{arith}
-use Rattle.forest.specs.Arrays.{places, roots_at_of}
-use Rattle.forest_cross.specs.Groups.{WalksEnd}
-use Rattle.forest_cross.proofs.Listing.{Listing, listing_begins, listing_before, listing_stays, listing_more, listing_ends, root_cell}
+use Rattle.forest.specs.Arrays.{places}
+use Rattle.forest_cross.proofs.Listing.{listing_begins, listing_before, listing_stays, listing_more, listing_ends, root_cell}
 use Rattle.forest_cross.proofs.list_groups.Goals as goal
 use Rattle.forest_cross.proofs.list_groups.Goals.{After-root_inside-root}
 

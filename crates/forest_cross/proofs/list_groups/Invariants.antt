@@ -1,11 +1,7 @@
 -- `forest_cross::list_groups` meets its contract: the loop's invariant is `Listing` (proofs/Listing.antt), and the measure is `cell`.
-use Prim.Native.Nat.{◌<◌}
-use mathlib.Core.Path.{◌≡◌, sym, ◌∙◌}
-use borrow.Author.Rules.{rules}
-use native.Mathlib.Omega.{arith}
 use Rattle.forest.specs.Arrays.{places, roots_at_of}
 use Rattle.forest_cross.specs.Groups.{WalksEnd}
-use Rattle.forest_cross.proofs.Listing.{Listing, listing_begins, listing_before, listing_stays, listing_more, listing_ends, root_cell}
+use Rattle.forest_cross.proofs.Listing.{Listing}
 use Rattle.forest_cross.proofs.list_groups.Given as goal
 
 abbrev pub invariant-loop-cell : goal.invariant-loop-cell

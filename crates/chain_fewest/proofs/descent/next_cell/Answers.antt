@@ -2,7 +2,6 @@
 -- from either (`next_found`).
 use Prim.Native.Nat.{◌-◌}
 use mathlib.Core.Path.{ap}
-use borrow.Author.Rules.{rules}
 use Rattle.chain_fewest.proofs.Nearest.{next_found}
 use Rattle.chain_fewest.proofs.descent.next_cell.Goals as goal
 
@@ -10,4 +9,4 @@ pub returns : goal.returns
 returns c =
     let given = c.requires in
     next_found given.lists (ap (λ n. n - 1) c.entry_at-number.ensures) c.smallest_across-found.ensures
-    c.smallest_across.ensures given.inside.1.1
+    c.smallest_across.ensures given.nearer.1

@@ -1,14 +1,8 @@
 -- `chain_fewest::descent::smallest_across` meets its contract. The loop's invariant: what is found is the smallest so far
 -- (`Finding`). The measure is what is left of the links.
 use Prim.Native.Nat.{◌-◌}
-use mathlib.Core.Path.{◌∙◌, sym}
-use mathlib.Core.Logic.{⊎_map}
-use native.Mathlib.Omega.{arith}
-use borrow.Author.Rules.{rules}
 use lib.ListN.{length}
-use Rattle.buckets.proofs.Walk.{entry_rises}
-use Rattle.chain_fewest.proofs.LinkLists.{across_inside}
-use Rattle.chain_fewest.proofs.Nearest.{Finding, finding_begins, finding_turns, finding_ends}
+use Rattle.chain_fewest.proofs.Nearest.{Finding}
 use Rattle.chain_fewest.proofs.descent.smallest_across.Given as goal
 
 abbrev pub invariant-loop-link : goal.invariant-loop-link

@@ -2,15 +2,12 @@
 -- it (`counting_turns`), and at its end the numbers are those of the best trails (`counting_ends`). The measure is what is
 -- left of the queue's places.
 use Prim.Native.Nat.{◌-◌}
-use mathlib.Core.Path.{sym, ◌∙◌}
-use native.Mathlib.Omega.{arith}
-use borrow.Author.Rules.{rules}
 use Rattle.forest.specs.Arrays.{places}
-use Rattle.chain_fewest.proofs.Counting.{Counting, counting_begins, queue_left, ready_forth, ready_back, counting_turns, counting_ends}
+use Rattle.chain_fewest.proofs.Counting.{Counting}
 use Rattle.chain_fewest.proofs.levels.count_cells.Given as goal
 
 abbrev pub invariant-loop-head : goal.invariant-loop-head
-invariant-loop-head l = Counting l.ones l.others l.first_one l.next_one first-other next-other l.other l.remaining l.queue l.head l.tail
+invariant-loop-head l = Counting l.ones l.others l.first_one l.next_one l.first_other l.next_other l.other l.remaining l.queue l.head l.tail
 
 abbrev pub decreases-loop-head : goal.decreases-loop-head
 decreases-loop-head l = places - l.head
