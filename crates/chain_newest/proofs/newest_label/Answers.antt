@@ -13,16 +13,15 @@ use Rattle.chain_newest.proofs.newest_label.Goals.{After-spot-spot, After-window
 opened : (c : After-window_slides-slides) → c.open_slide-k.result ≡ open_slide_of c.args.clock
 opened c = c.open_slide-k.ensures
 
-young : (c : In-loop-age) → c.loop-age.age < window_slides_of (start c.before.before.before).args.clock
+young : (c : In-loop-age) → c.loop-age.age < window_slides_of c.args.clock
 young c = rw c.window_slides-slides.ensures at c.loop-age-test.true
 
 spot_below : (c : After-spot-spot) → c.spot-spot.result < 32
 spot_below c =
-    let entry = start c.before.before.before.before in
-    omega (arith, c.spot-spot.ensures, place_below entry.args.clock entry.pre.n_least (c.open_slide-k.result - c.loop-age.age), entry.pre.n_most)
+    omega (arith, c.spot-spot.ensures, place_below c.args.clock c.requires.n_least (c.open_slide-k.result - c.loop-age.age), c.requires.n_most)
 
-few : (c : After-spot-spot) → get_or (start c.before.before.before.before).args.counts.now c.spot-spot.result 0 ≤ 256
-few c = (start c.before.before.before.before).pre.few c.spot-spot.result
+few : (c : After-spot-spot) → get_or c.args.counts.now c.spot-spot.result 0 ≤ 256
+few c = c.requires.few c.spot-spot.result
 
 pub overflow_add-result : goal.overflow_add-result
 overflow_add-result c = omega (arith, c.requires.n_most)
@@ -52,7 +51,7 @@ pub join_links-roots-requires : goal.join_links-roots-requires
 join_links-roots-requires c =
     let s = c.loop-age.invariant in
     record {
-      count_in_bounds = omega (arith, spot_below (goal.at.join_links-roots-requires c).After-spot-spot, few (goal.at.join_links-roots-requires c).After-spot-spot, (start (goal.at.join_links-roots-requires c).After-window_slides-slides).pre.long);
+      count_in_bounds = omega (arith, spot_below (goal.at.join_links-roots-requires c).After-spot-spot, few (goal.at.join_links-roots-requires c).After-spot-spot, c.requires.long);
       descends = s.tracks.stands.falls;
       fact = s.apart;
     }

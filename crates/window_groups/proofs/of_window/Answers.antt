@@ -27,10 +27,10 @@ grown : (c : After-grow-forest) → Grown c.grow-forest.result.parent c.grow-for
 grown c = forest_grown _ _ _ (forest_is c)
 
 rooted : (c : After-roots-root) → Roots c.roots-root.result
-rooted c = roots_below (let it : Grown c.grow-forest.result.parent c.grow-forest.result.label = forest_grown _ _ _ (forest_is c) in it) c.roots-root.ensures
+rooted c = roots_below (let it : Grown c.grow-forest.result.parent c.grow-forest.result.label = forest_grown _ _ _ ((let it : c.grow-forest.result ≡ grown_from ((window_links c.args.clock c.args.counts.now c.args.log.now)) = c.grow-forest.ensures ∙ ap grown_from (put_read c.gather-count.ensures (let it : length ((window_links c.args.clock c.args.counts.now c.args.log.now)) ≤ 4096 = window_few c.args.clock c.args.counts.now c.args.log.now c.requires in it)) in it)) in it) c.roots-root.ensures
 
-told : (c : After-tally-tallies) → (let f = forest c.before.before.before.before.before in AtRoots (start f).args.clock.n f.grow.result.parent f.grow.result.label c.roots-root.result c.tally-tallies.result)
-told c = record { grown = grown (forest c.before.before.before.before.before); roots_are = c.roots-root.ensures; tallies_are = c.tally-tallies.ensures }
+told : (c : After-tally-tallies) → (AtRoots c.args.clock.n c.grow-forest.result.parent c.grow-forest.result.label c.roots-root.result c.tally-tallies.result)
+told c = record { grown = (let it : Grown c.grow-forest.result.parent c.grow-forest.result.label = forest_grown _ _ _ (let it : c.grow-forest.result ≡ grown_from ((window_links c.args.clock c.args.counts.now c.args.log.now)) = c.grow-forest.ensures ∙ ap grown_from (put_read c.gather-count.ensures (let it : length ((window_links c.args.clock c.args.counts.now c.args.log.now)) ≤ 4096 = window_few c.args.clock c.args.counts.now c.args.log.now c.requires in it)) in it) in it); roots_are = c.roots-root.ensures; tallies_are = c.tally-tallies.ensures }
 
 pub grow-forest-requires : goal.grow-forest-requires
 grow-forest-requires c = omega (arith, put_many c.gather-count.ensures, few (goal.at.grow-forest-requires c).After-gather-count)
@@ -44,5 +44,4 @@ at_roots-requires c =
 
 pub returns : goal.returns
 returns c =
-    let f = forest (goal.at.returns c).After-roots-root in
-    c.at_roots.ensures ∙ forest_groups _ _ _ (forest_is f) (told (goal.at.returns c).After-tally-tallies) (put_many f.gather.ensures)
+    c.at_roots.ensures ∙ forest_groups _ _ _ (forest_is (goal.at.returns c).After-grow-forest) (told (goal.at.returns c).After-tally-tallies) (put_many c.gather-count.ensures)
