@@ -1,12 +1,13 @@
 // Bytes copied to the front of a lent buffer.
 #![tactic(auto)]
 
-ghost use Rattle.std.specs.Prelude.{◌≡◌, ◌++◌, length, min, take, drop};
+ghost use Rattle.std.specs.Prelude.{◌≡◌, ◌++◌, ◌≤◌, length, min, take, drop};
 
 // As many bytes as both have are copied to the front of `to`; what stands behind them stays. Gives how many.
 pub fn copy(from: &[u8], to: &mut [u8]) -> usize
     ensures count { result ≡ min (length from.now) (length to.old) }
     ensures copied { to.new ≡ take result from.now ++ drop result to.old }
+    ensures whole { length from.now ≤ length to.old → to.new ≡ from.now ++ drop (length from.now) to.old }
 {
     let count = from.len().min(to.len());
     to[..count].copy_from_slice(&from[..count]);

@@ -52,6 +52,7 @@ end_linked (l ∷ ls) c e = go (eqb l.one c) (eqb l.other c) refl refl e (end_li
 -- and whatever is linked is an end
 pub linked_end : (ls : List Link) (c d : ℕ) → Linked c d ls → is_end ls c ≡ true
 unfolding is_end
+linked_end [] c d x = elim x [ ]
 linked_end (l ∷ ls) c d (here (along p q)) = rw (eq-eqb _ _ p)
 linked_end (l ∷ ls) c d (here (against p q)) = rw (eq-eqb _ _ q, or-true (eqb l.one c))
 linked_end (l ∷ ls) c d (there x) = rw (linked_end ls c d x) (or-true (eqb l.one c || eqb l.other c))
