@@ -66,7 +66,7 @@ numbered c =
 -- where the groups are asked for
 numbered_0 : (c : Else-number-ne0)
     → (groups_number_in (in_order_of ((book_of c.args.clock c.args.fitting c.args.counts.now c.args.forward_parent.now c.args.forward_size.now c.args.backward_parent.now c.args.backward_size.now c.args.backward_label.now))) c.args.log.now c.args.first.now c.args.size.now c.args.hold.now ≡ 0)
-numbered_0 c = sym (numbered c.before) ∙ c.if-number-ne0.false
+numbered_0 c = sym (let it : (c.groups_number-number.result ≡ groups_number_in (in_order_of ((book_of c.args.clock c.args.fitting c.args.counts.now c.args.forward_parent.now c.args.forward_size.now c.args.backward_parent.now c.args.backward_size.now c.args.backward_label.now))) c.args.log.now c.args.first.now c.args.size.now c.args.hold.now) = let args = c.args in c.groups_number-number.ensures ∙ ap (λ t. groups_number_in t args.log.now args.first.now args.size.now args.hold.now) c.in_order-ordered.ensures in it) ∙ c.if-number-ne0.false
 
 found : (c : Else-number-ne0) → (Passed (in_order_of ((book_of c.args.clock c.args.fitting c.args.counts.now c.args.forward_parent.now c.args.forward_size.now c.args.backward_parent.now c.args.backward_size.now c.args.backward_label.now))) c.args.log.now c.args.first.now c.args.size.now c.args.hold.now)
 found c = passed _ _ _ _ _ (numbered_0 c)

@@ -54,10 +54,11 @@ unfolding groups_by_number
 returns c =
     let args = c.args in
     let is = c.of_window-groups.ensures in
-    let hold = c.of_window-groups.result.hold in
     record {
       answered = ap (λ g. record { links = g.links; number = 0 }) is;
       firsts = c.put_front.ensures ∙ ap (λ g. at_front g.first args.first.now) is;
       sizes = c.put_front-2.ensures ∙ ap (λ g. at_front g.count args.size.now) is;
-      holds = c.copy.ensures.1 ∙ ap (λ front. front ++ drop (length hold) args.hold.now) (take-length hold) ∙ ap (λ g. at_front g.hold args.hold.now) is;
+      holds =
+          c.copy.ensures.whole (omega (arith, hold_length _ _ _ is, c.requires.1.hold_long))
+          ∙ ap (λ g. at_front g.hold args.hold.now) is;
     }

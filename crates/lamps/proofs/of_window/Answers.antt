@@ -15,11 +15,9 @@ use Rattle.lamps.specs.Groups.{Firsts, Marks, lights_by}
 use Rattle.lamps.proofs.Groups.{lights_told}
 use Rattle.lamps.proofs.Mask.{mask_long}
 use Rattle.lamps.proofs.Search.{lamp_agree}
-use Rattle.lamps.proofs.of_window.Statement.{statement}
-use Rattle.lamps.proofs.of_window.Tie as tie
+use Rattle.lamps.proofs.of_window.Goals as goal
 
 -- ---- by what is known of each cell
-
 -- the smallest cells of groups are cells
 firsts : (clock : Clock) (counts log : List ℕ) {ends : Ends} → ends ≡ ends_of_lem clock counts log → Firsts ends.first
 firsts clock counts log is c h = rw is (first_below clock counts log c h)
@@ -30,40 +28,23 @@ lamp_told : (clock : Clock) (counts log mask : List ℕ) (zone : Zone) {ends : E
 lamp_told clock counts log mask zone {ends} {dark} is marks =
     rw is (lamp_agree 0 cells (λ c h. lights_told clock counts log mask (rw is at marks) zone c h))
 
--- ---- the code
+pub of_window-ends-requires : goal.of_window-ends-requires
+of_window-ends-requires c = c.requires.0
 
--- the entry, from where the ends are known
-abbrev entry : tie.After-of-window → tie.Start
-entry c = c.before.before.before
+pub groups-dark-requires : goal.groups-dark-requires
+groups-dark-requires c = (firsts _ _ _ c.of_window-ends.ensures, mask_long cells _ c.requires.1)
 
-of-window-requires : tie.Need-of-window-requires
-of-window-requires c κs = c.before.before.requires.0
+pub lamp_of-left-requires : goal.lamp_of-left-requires
+lamp_of-left-requires c = firsts _ _ _ c.of_window-ends.ensures
 
-groups-requires : tie.Need-groups-requires
-groups-requires c κs =
-    let told = c.before.before in
-    (firsts _ _ _ told.of-window.ensures, mask_long cells _ (entry told).requires.1)
+pub lamp_of-right-requires : goal.lamp_of-right-requires
+lamp_of-right-requires c = firsts _ _ _ c.of_window-ends.ensures
 
--- the ends, from where the groups are marked
-abbrev told : tie.After-groups → tie.After-of-window
-told c = c.before.before.before
-
-lamp-of-requires : tie.Need-lamp-of-requires
-lamp-of-requires c κs = firsts _ _ _ (told c.before.before.before.before).of-window.ensures
-
-lamp-of-requires-2 : tie.Need-lamp-of-requires-2
-lamp-of-requires-2 c κs = firsts _ _ _ (told c.before.before.before.before.before.before.before.before.before).of-window.ensures
-
-returns : tie.Need-returns
+pub returns : goal.returns
 unfolding lamps_by_number
 returns c =
-    let one = c.before.before.before.before.before in
-    let marked = one.before.before.before.before.before in
-    let args = (entry (told marked)).args in
-    let is = (told marked).of-window.ensures in
-    let left = one.lamp-of.ensures ∙ lamp_told args.clock args.counts.now args.log.now args.mask.now (left_zone sectors) is marked.groups.ensures in
-    let right = c.lamp-of2.ensures ∙ lamp_told args.clock args.counts.now args.log.now args.mask.now (right_zone sectors) is marked.groups.ensures in
+    let args = c.args in
+    let is = c.of_window-ends.ensures in
+    let left = c.lamp_of-left.ensures ∙ lamp_told args.clock args.counts.now args.log.now args.mask.now (left_zone sectors) is c.groups-dark.ensures in
+    let right = c.lamp_of-right.ensures ∙ lamp_told args.clock args.counts.now args.log.now args.mask.now (right_zone sectors) is c.groups-dark.ensures in
     λ i. record { left_cell = (left i).cell; right_cell = (right i).cell; left = (left i).lit; right = (right i).lit; number = 0 }
-
-pub of_window_spec : {M : Type 1} → statement M
-of_window_spec = tie.close (tie.spec of-window-requires groups-requires lamp-of-requires lamp-of-requires-2 returns)
