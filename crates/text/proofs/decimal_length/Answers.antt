@@ -1,8 +1,6 @@
-use Prim.Native.Nat.{◌+◌, ◌≤◌}
-use mathlib.Core.Path.{◌≡◌, ap}
+use mathlib.Core.Path.{ap}
 use native.Mathlib.Omega.{arith}
 use lib.ListN.{length}
-use Rattle.text.specs.Text.{decimal}
 use Rattle.text.proofs.Decimal.{decimal_one, one_longer, decimal_short}
 use Rattle.text.proofs.decimal_length.Goals as goal
 

@@ -1,31 +1,11 @@
-use Prim.Native.Nat.{ℕ, ◌+◌, ◌-◌, ◌≤◌}
 use mathlib.Core.Path.{◌∙◌}
-use mathlib.Core.List.{List, [], ◌∷◌}
 use native.Mathlib.Omega.{arith}
-use lib.ListN.{length, get_or, take, length-append}
+use lib.ListN.{length-append}
 use lib.Seq.{take_all}
 use Rattle.text.specs.Text.{fields}
-use Rattle.text.specs.Output.{WrittenAt}
 use Rattle.text.proofs.Decimal.{fields_more, fields_room}
 use Rattle.text.proofs.Writing.{written_none, written_then, written_length}
 use Rattle.text.proofs.put_fields.Goals as goal
-use Rattle.text.proofs.put_fields.Goals.{In-loop-i}
-
--- there is room for the value of a turn
-module _ (c : In-loop-i) where
-  abbrev entry : tie.Start invariant-loop decreases-loop
-  entry = c.before.before.before.before.before.before.before.before.before
-
-  abbrev values : List ℕ
-  values = entry.args.values.now
-
-  room : c.loop-i.end + length (fields (get_or values c.loop-i.i 0 ∷ [])) ≤ length c.loop-i.out
-  room =
-      let word = c.put_word-end in
-      let written = c.loop-i.invariant.1 in
-      let more = fields_room values c.loop-i.i c.loop-i-test.true in
-      let whole = length-append entry.args.word.now (fields values) in
-      omega (arith, entry.pre, word.ensures.until, word.auto.1.0, written.until, written_length written)
 
 pub put_word-end-requires : goal.put_word-end-requires
 put_word-end-requires c = omega (arith, length-append c.args.word.now (fields c.args.values.now), c.requires)
@@ -34,13 +14,17 @@ pub loop-i-init : goal.loop-i-init
 unfolding fields
 loop-i-init c =
     let word = c.put_word-end in
-    (omega arith, written_none _ _ (omega (arith, word.ensures.within, word.auto.1.0)))
+    (omega arith, written_none _ _ (omega (arith, word.ensures.within, word.auto.out)))
 
-pub offset_bounds-values-i : goal.offset_bounds-values-i
-offset_bounds-values-i c = omega (arith, (entry c).well-formed.1.0.1)
-
+-- there is room for the value of a turn
 pub put_field-end-requires : goal.put_field-end-requires
-put_field-end-requires c = room c.before.before
+put_field-end-requires c =
+    let values = c.args.values.now in
+    let word = c.put_word-end in
+    let written = c.loop-i.invariant.1 in
+    let more = fields_room values c.loop-i.i c.loop-i-test.true in
+    let whole = length-append c.args.word.now (fields values) in
+    omega (arith, c.requires, word.ensures.until, word.auto.out, written.until, written_length written)
 
 pub loop-i-preserved : goal.loop-i-preserved
 loop-i-preserved c =
@@ -49,7 +33,7 @@ loop-i-preserved c =
     (omega arith, rw (fields_more _ _ turn) (written_then head.invariant.1 c.put_field-end.ensures))
 
 pub shape_of-out : goal.shape_of-out
-shape_of-out c = written_length c.loop-i.invariant.1 ∙ c.put_word-end.auto.1.0
+shape_of-out c = written_length c.loop-i.invariant.1 ∙ c.put_word-end.auto.out
 
 pub returns : goal.returns
 returns c =

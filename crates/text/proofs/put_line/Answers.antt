@@ -17,10 +17,10 @@ put_fields-end-requires c = omega (arith, one_longer c.args.word.now c.args.valu
 pub put_byte-requires : goal.put_byte-requires
 put_byte-requires c =
     let before = c.put_fields-end in
-    omega (arith, one_longer c.args.word.now c.args.values.now, c.requires, before.ensures.until, before.auto.1.1.0)
+    omega (arith, one_longer c.args.word.now c.args.values.now, c.requires, before.ensures.until, before.auto.out)
 
 pub shape_of-out : goal.shape_of-out
-shape_of-out c = c.put_byte.auto.1.0 ∙ c.put_fields-end.auto.1.1.0
+shape_of-out c = c.put_byte.auto.out ∙ c.put_fields-end.auto.out
 
 pub returns : goal.returns
 returns c = written_then c.put_fields-end.ensures c.put_byte.ensures

@@ -1,5 +1,4 @@
 -- `text::put_pair` meets its contract: one byte after the other.
-use borrow.Author.Rules.{rules}
 use Rattle.text.proofs.Writing.{written_then}
 use Rattle.text.proofs.put_pair.Goals as goal
 

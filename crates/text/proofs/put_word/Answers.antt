@@ -1,16 +1,19 @@
 -- `text::put_word` meets its contract: a word copied to the front of a lent part stands where the part begins.
+use mathlib.Core.Path.{◌≡◌}
 use native.Mathlib.Omega.{arith}
-use borrow.Author.Rules.{rules}
+use lib.ListN.{length, length-drop}
 use lib.Seq.{take-length}
-use Rattle.numbers.proofs.Parts.{copied_from}
+use Rattle.numbers.proofs.Parts.{part_from, copied_from}
 use Rattle.text.proofs.put_word.Goals as goal
 
 pub returns : goal.returns
 returns c =
     let word = c.args.word.now in
-    let copied = c.copy.ensures in
+    let out = c.args.out.now in
+    let part = rw (part_from out c.args.at) at c.copy.ensures.count in
+    let count : c.copy.result ≡ length word = omega (arith, length-drop c.args.at out) in
     record {
-      until = omega (arith, copied.0);
-      within = omega (arith, copied.0, c.requires);
-      bytes = copied_from c.args.out.now c.args.at word c.requires (rw (take-length word) at copied.1);
+      until = omega arith;
+      within = omega (arith, c.requires);
+      bytes = copied_from out c.args.at word c.requires (rw (count, take-length word) at c.copy.ensures.copied);
     }
