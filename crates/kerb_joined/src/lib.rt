@@ -1,6 +1,6 @@
 // The interface for C and Rust: the joined call. It takes one shared reference to the book and lends
 // its fields on where they stand; what it gives, and what the lent buffers hold at the end, is what its definition says, for every
-// input. The proof is a walk of the code, written by tools/walk.py.
+// input.
 #![tactic(auto)]
 
 ghost use Rattle.std.specs.Prelude.{◌≡◌};

@@ -1,5 +1,5 @@
 // The interface for C and Rust: the two lamps. It takes one shared reference to the book and lends its fields on where they stand; what it
-// gives is what its definition says, for every input. The proof is a walk of the code, written by tools/walk.py.
+// gives is what its definition says, for every input.
 #![tactic(auto)]
 
 ghost use Rattle.std.specs.Prelude.{◌≡◌};

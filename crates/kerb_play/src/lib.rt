@@ -1,6 +1,6 @@
 // The interface for C and Rust: the call that plays a link file into a book. It takes one reference to the book and lends
 // its fields on where they stand, so that no copy of the book is made; what it gives, the book and the log at the end are those of
-// its definition, for every input. The proof is a walk of the code, written by tools/walk.py.
+// its definition, for every input.
 #![tactic(auto)]
 
 ghost use Rattle.file_play.specs.Play.{play_of, GivesPlay};

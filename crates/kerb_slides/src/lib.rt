@@ -1,5 +1,5 @@
 // The interface for C and Rust: the slides of a book's clock. Each call takes one shared reference to the book and reads its clock;
-// what it gives is what its definition says, for every input. The proofs are walks of the code, written by tools/walk.py.
+// what it gives is what its definition says, for every input.
 #![tactic(auto)]
 
 ghost use Rattle.std.specs.Prelude.{◌≡◌};

@@ -1,6 +1,6 @@
 // The interface for C and Rust: the time of a book, which link and clock move and a call of its own tells. Each takes one reference to the
 // book and lends its fields on where they stand, so that no copy of the book is made; what it gives, the book and the log at the end are
-// those of its definition, for every input. The proofs are walks of the code, written by tools/walk.py.
+// those of its definition, for every input.
 //
 // Link and clock are one crate for the sake of the stack. In an object with both, the step of time stays a function of its own, and its
 // arrays are not on the stack while number 1 is asked.
@@ -17,7 +17,7 @@ use book_state::Book;
 // alone (RULES 2.4).
 #[unsafe(no_mangle)]
 pub extern "C" fn kerb_link(book: &mut Book, log: &mut [u16], tick: u32, one: u16, other: u16) -> u8
-    ensures { Gives (link_of book.entry.now log.old tick one other) (record { book = book.exit.now; number = result }) log.new }
+    ensures { Gives (link_of book.old log.old tick one other) (record { book = book.new; number = result }) log.new }
 {
     let linked = book_link::link(
         book.clock,
@@ -41,7 +41,7 @@ pub extern "C" fn kerb_link(book: &mut Book, log: &mut [u16], tick: u32, one: u1
 // The time moves to the tick, and nothing is logged. Which slide is open then does not follow from the tick alone (RULES 2.4).
 #[unsafe(no_mangle)]
 pub extern "C" fn kerb_clock(book: &mut Book, log: &[u16], tick: u32) -> u8
-    ensures { Gives (clock_of book.entry.now log.now tick) (record { book = book.exit.now; number = result }) log.now }
+    ensures { Gives (clock_of book.old log.now tick) (record { book = book.new; number = result }) log.now }
 {
     let moved = fields::clock(
         book.clock,
