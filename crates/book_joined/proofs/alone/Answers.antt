@@ -1,9 +1,8 @@
 -- `book_joined::alone` meets its contract: a cell that takes a step does not stand alone; and the forward forest is the one without a
 -- cut.
-use mathlib.Core.Path.{◌≡◌, sym, ◌∙◌}
-use mathlib.Core.Bool.{◌&&◌, and-false}
-use borrow.Author.Rules.{rules}
-use borrow.Author.Tests.{eqb-false, not-true, not-false}
+use mathlib.Core.Path.{sym, ◌∙◌}
+use mathlib.Core.Bool.{and-false}
+use borrow.Author.Tests.{eqb-false, not-true}
 use Rattle.forest.specs.Arrays.{parent_at_in}
 use Rattle.book_joined.proofs.Unlinked.{alone_uncut, goes_not_alone}
 use Rattle.book_joined.proofs.alone.Goals as goal
@@ -11,13 +10,13 @@ use Rattle.book_joined.proofs.alone.Goals as goal
 pub returns-then-goes : goal.returns-then-goes
 returns-then-goes c =
     let args = c.args in
-    simp (goes_not_alone (parent_at_in args.backward.now args.label.now args.cut) c.requires.3 (eqb-false _ _ (sym c.goes.ensures ∙ c.if-goes.true)))
+    simp (goes_not_alone (parent_at_in args.backward.now args.label.now args.cut) c.requires.3 (eqb-false _ _ (not-true _ (sym c.goes.ensures ∙ c.if-goes.true))))
 
 pub returns-then-goes-2 : goal.returns-then-goes-2
 returns-then-goes-2 c =
     let args = c.args in
     simp (
-      sym (alone_uncut args.forward.now args.label.now args.cell) ∙ goes_not_alone (parent_at_in args.forward.now args.label.now 0) c.requires.3 (eqb-false _ _ (sym c.goes-2.ensures ∙ c.if-goes-2.true)),
+      sym (alone_uncut args.forward.now args.label.now args.cell) ∙ goes_not_alone (parent_at_in args.forward.now args.label.now 0) c.requires.3 (eqb-false _ _ (not-true _ (sym c.goes-2.ensures ∙ c.if-goes-2.true))),
       and-false,
     )
 

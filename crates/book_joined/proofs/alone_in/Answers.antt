@@ -1,16 +1,14 @@
-use Prim.Native.Nat.{ℕ, zero, suc, ◌+◌, ◌-◌, ◌≤◌, zero-le}
+use Prim.Native.Nat.{ℕ, zero, suc, ◌+◌, ◌≤◌, zero-le}
 use native.Mathlib.Nat.{le_refl, zero-add}
 use borrow.Author.Tests.{ne_eqb}
 use mathlib.Core.Path.{◌≡◌, refl, ap, ◌∙◌}
 use mathlib.Core.Bool.{Bool, true, false, cond, ◌&&◌}
 use native.Mathlib.Omega.{arith}
-use borrow.Author.Rules.{rules}
 use lib.Dec.{eqb, ltb}
 use lib.ListN.{get_or}
-use Rattle.forest.specs.Arrays.{fresh_parents_of, parent_at_in}
-use Rattle.forest_check.proofs.Every.{Tested, tested_none, tested_more, tested_all}
+use Rattle.forest.specs.Arrays.{parent_at_in}
+use Rattle.forest_check.proofs.Every.{tested_none, tested_more, tested_all}
 use Rattle.forest.proofs.Fill.{get_d_within, length_count_from}
-use Rattle.book_state.specs.Arrays.{cells}
 use Rattle.book_joined.specs.Alone.{spares}
 use Rattle.book_joined.proofs.alone_in.Goals as goal
 use Rattle.book_joined.proofs.alone_in.Goals.{After-touch-steps}

@@ -1,17 +1,9 @@
 -- `book_joined::alone_in` meets its contract: a pass over the cells, with their parents at the cut, that counts; the flag is whether nothing
 -- was counted so far.
-use Prim.Native.Nat.{ℕ, zero, suc, ◌+◌, ◌-◌, ◌≤◌, zero-le}
-use native.Mathlib.Nat.{le_refl, zero-add}
-use borrow.Author.Tests.{ne_eqb}
-use mathlib.Core.Path.{◌≡◌, refl, ap, ◌∙◌}
-use mathlib.Core.Bool.{Bool, true, false, cond, ◌&&◌}
-use native.Mathlib.Omega.{arith}
-use borrow.Author.Rules.{rules}
-use lib.Dec.{eqb, ltb}
-use lib.ListN.{get_or}
+use Prim.Native.Nat.{◌-◌, ◌≤◌}
+use lib.Dec.{eqb}
 use Rattle.forest.specs.Arrays.{fresh_parents_of, parent_at_in}
-use Rattle.forest_check.proofs.Every.{Tested, tested_none, tested_more, tested_all}
-use Rattle.forest.proofs.Fill.{get_d_within, length_count_from}
+use Rattle.forest_check.proofs.Every.{Tested}
 use Rattle.book_state.specs.Arrays.{cells}
 use Rattle.book_joined.specs.Alone.{spares}
 use Rattle.book_joined.proofs.alone_in.Given as goal

@@ -1,5 +1,5 @@
 -- `book_joined::goes` meets its contract: one step of a walk tells.
-use mathlib.Core.Path.{◌≡◌, ap, ◌∙◌}
+use mathlib.Core.Path.{ap, ◌∙◌}
 use mathlib.Core.Bool.{not}
 use lib.Dec.{eqb}
 use Rattle.forest.specs.Arrays.{parent_at_in}

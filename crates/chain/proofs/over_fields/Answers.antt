@@ -3,8 +3,7 @@ use Prim.Native.Nat.{◌<◌}
 use mathlib.Core.Path.{◌≡◌, sym, ◌∙◌}
 use mathlib.Core.Bool.{true}
 use native.Mathlib.Omega.{arith}
-use borrow.Author.Tests.{le-leb, not-true, not-false}
-use Rattle.book_state.specs.declared.Book.{Book}
+use borrow.Author.Tests.{le-leb}
 use Rattle.book_state.specs.Order.{book_of, in_order_of}
 use Rattle.numbers.specs.Checks.{has}
 use Rattle.book_state.specs.Arrays.{cells}
@@ -12,7 +11,6 @@ use Rattle.book_state.specs.Numbers.{log_places, are_cells_of}
 use Rattle.numbers.proofs.Checks.{has_length}
 use Rattle.book_state.proofs.Checks.{in_order_range, readable, two_cells}
 use Rattle.chain.proofs.ChainCall.{call_refused, out_of_order, short_log, short_chain, no_cells, call_answered}
-use borrow.Author.Rules.{rules}
 use Rattle.chain.proofs.over_fields.Goals as goal
 use Rattle.chain.proofs.over_fields.Goals.{Else-log-lt16384, Else-not-are_cells, Else-not-ordered}
 

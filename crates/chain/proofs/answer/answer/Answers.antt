@@ -5,7 +5,6 @@ use native.Mathlib.Omega.{arith}
 use native.Mathlib.Nat.{pos_of_ne-zero}
 use Rattle.slides.proofs.Slides.{open_fits}
 use Rattle.chain.proofs.ChainCall.{unjoined, answers, newest_is}
-use borrow.Author.Rules.{rules}
 use Rattle.chain.proofs.answer.answer.Goals as goal
 use Rattle.chain.proofs.answer.answer.Goals.{Else-label-eq0}
 

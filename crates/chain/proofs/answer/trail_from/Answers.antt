@@ -3,7 +3,6 @@
 use Prim.Native.Nat.{◌≤◌}
 use mathlib.Core.Path.{sym}
 use native.Mathlib.Omega.{arith}
-use borrow.Author.Rules.{rules}
 use lib.ListN.{length}
 use lib.Seq.{length-take-le}
 use Rattle.chain.proofs.ChainCall.{label_few, slides_fit, room, asked, given}
@@ -12,7 +11,7 @@ use Rattle.chain.proofs.answer.trail_from.Goals.{After-gather_newest-count}
 
 -- both arrays have room for the links
 fits : (c : After-gather_newest-count)
-    → (c.gather_newest-count.result ≤ length c.gather_newest-count.new.1.1.1.1.0) × (c.gather_newest-count.result ≤ length c.gather_newest-count.new.1.1.1.1.1.0)
+    → (c.gather_newest-count.result ≤ length c.gather_newest-count.new.ones) × (c.gather_newest-count.result ≤ length c.gather_newest-count.new.others)
 fits c = room c.requires.checks_passed c.requires.label_value.0 c.requires.label_value.1 c.gather_newest-count.ensures
 
 pub overflow_add-slides : goal.overflow_add-slides
