@@ -1,10 +1,9 @@
-use Prim.Native.Nat.{ℕ, ◌+◌, ◌-◌, ◌*◌, ◌≤◌, ◌<◌}
+use Prim.Native.Nat.{ℕ, ◌+◌, ◌*◌, ◌≤◌, ◌<◌}
 use mathlib.Core.Path.{◌≡◌, refl, sym, ap, ◌∙◌}
 use mathlib.Core.Bool.{true, false}
 use mathlib.Core.List.{List}
 use native.Mathlib.Omega.{arith}
 use native.Mathlib.Numerals.{add-one}
-use borrow.Author.Rules.{rules}
 use borrow.Author.Tests.{eq-eqb, ne_eqb, le-leb, lt-leb}
 use lib.ListN.{length, get_or}
 use Rattle.numbers.proofs.Flags.{struck, kept}
@@ -12,17 +11,12 @@ use Rattle.forest.specs.Arrays.{places}
 use Rattle.forest.proofs.Fill.{get_d_within}
 use Rattle.forest.proofs.Ranged.{Ranged}
 use Rattle.forest_check.specs.Sound.{every, doubles_at}
-use Rattle.forest_check.proofs.Every.{Tested, tested_none, tested_more, tested_all}
+use Rattle.forest_check.proofs.Every.{tested_none, tested_more, tested_all}
 use Rattle.forest_check.proofs.Facts.{sound_ranged}
 use Rattle.book_steady.specs.Steady.{root_cells}
+use Rattle.book_steady.proofs.grown.Invariants.{Counted}
 use Rattle.book_steady.proofs.grown.Goals as goal
 use Rattle.book_steady.proofs.grown.Goals.{In-loop-i}
-
--- the cells before i are tested, and the sizes of their roots are added up
-record Counted (ps ss : List ℕ) (sum i : ℕ) : Type 0 where
-  tested : Tested (doubles_at ss) ps true i
-  summed : sum ≡ root_cells ps ss i
-  small : sum ≤ i * places
 
 module _ {ps ss : List ℕ} (long : length ps ≡ places) (r : Ranged (length ps) ps ss) {sum i : ℕ} (on : Counted ps ss sum i) (h : i < length ps) where
   within : i < length ss

@@ -1,7 +1,5 @@
 -- `book_steady::steady` meets its contract: each test is one of the definition's.
 use mathlib.Core.Path.{sym, ◌∙◌}
-use borrow.Author.Rules.{rules}
-use borrow.Author.Tests.{not-true, not-false}
 use Rattle.book_state.proofs.Checks.{ordered}
 use Rattle.book_steady.specs.Steady.{steady_of}
 use Rattle.book_steady.proofs.steady.Goals as goal

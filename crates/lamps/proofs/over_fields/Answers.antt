@@ -4,11 +4,9 @@ use Prim.Native.Nat.{ℕ, zero, suc}
 use mathlib.Core.Path.{◌≡◌, refl, sym, ap, ◌∙◌}
 use mathlib.Core.Bool.{Bool, true, false}
 use mathlib.Core.List.{List}
-use borrow.Author.Rules.{rules}
 use Rattle.numbers.specs.Checks.{has}
 use Rattle.numbers.proofs.Checks.{first_passed, unless_passed}
 use Rattle.graph.specs.Link.{Link}
-use Rattle.book_state.specs.declared.Book.{Book}
 use Rattle.book_state.specs.Arrays.{cells}
 use Rattle.book_state.specs.Numbers.{log_places}
 use Rattle.book_state.specs.Order.{book_of, in_order_of}

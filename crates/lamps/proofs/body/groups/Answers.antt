@@ -1,14 +1,12 @@
-use Prim.Native.Nat.{◌-◌, ◌≤◌, ◌<◌}
+use Prim.Native.Nat.{◌<◌}
 use mathlib.Core.Path.{◌≡◌, refl}
-use mathlib.Core.Logic.{inl, inr}
 use native.Mathlib.Omega.{arith}
 use lib.ListN.{get_or, get_or-replicate}
 use Rattle.book_state.specs.Arrays.{cells}
 use Rattle.lamps.specs.Lamps.{some_below}
-use Rattle.lamps.specs.Groups.{Marks}
 use Rattle.lamps.proofs.Groups.{marks_body, marks_other}
 use Rattle.lamps.proofs.body.groups.Goals as goal
-use Rattle.lamps.proofs.body.groups.Goals.{In-loop-cell}
+use Rattle.lamps.proofs.body.groups.Goals.{In-loop-cell, then-mask-cell-eq1, else-mask-cell-eq1}
 
 -- the smallest cell of the turn's group is a cell
 first_below : (c : In-loop-cell) → get_or c.args.first.now c.loop-cell.cell 0 < cells
@@ -38,8 +36,8 @@ loop-cell-preserved c =
     let so_far = c.loop-cell.invariant.1 in (
       omega (arith, c.loop-cell-test.true),
       elim c.if-mask-cell-eq1.branch [
-        | inl w ↦ rw w.2 (marks_body so_far c.loop-cell-test.true (first_below (goal.at.loop-cell-preserved c).In-loop-cell) w.0.taken)
-        | inr w ↦ rw w.1 (marks_other so_far w.0.left)
+        | then-mask-cell-eq1 w ↦ rw w.dark-is (marks_body so_far c.loop-cell-test.true (first_below (goal.at.loop-cell-preserved c).In-loop-cell) w.if-mask-cell-eq1.true)
+        | else-mask-cell-eq1 w ↦ rw w.dark-is (marks_other so_far w.if-mask-cell-eq1.false)
       ],
     )
 

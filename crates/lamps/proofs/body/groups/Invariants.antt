@@ -1,13 +1,7 @@
 -- `lamps::body::groups` meets its contract: after i cells the groups of the body cells below i are marked (proofs/Groups.antt).
-use Prim.Native.Nat.{◌-◌, ◌≤◌, ◌<◌}
-use mathlib.Core.Path.{◌≡◌, refl}
-use mathlib.Core.Logic.{inl, inr}
-use native.Mathlib.Omega.{arith}
-use lib.ListN.{get_or, get_or-replicate}
+use Prim.Native.Nat.{◌-◌, ◌≤◌}
 use Rattle.book_state.specs.Arrays.{cells}
-use Rattle.lamps.specs.Lamps.{some_below}
 use Rattle.lamps.specs.Groups.{Marks}
-use Rattle.lamps.proofs.Groups.{marks_body, marks_other}
 use Rattle.lamps.proofs.body.groups.Given as goal
 
 abbrev pub invariant-loop-cell : goal.invariant-loop-cell

@@ -1,16 +1,16 @@
-use Prim.Native.Nat.{◌-◌, ◌≤◌}
-use mathlib.Core.Path.{◌≡◌, refl, sym, ap, ◌∙◌}
+use mathlib.Core.Path.{refl, sym, ap, ◌∙◌}
 use mathlib.Core.Bool.{◌&&◌}
 use native.Mathlib.Omega.{arith}
 use native.Mathlib.Numerals.{add-one}
 use borrow.Author.Tests.{le-leb, lt-leb}
 use lib.Dec.{leb}
 use lib.ListN.{get_or}
-use Rattle.numbers.proofs.Flags.{flagged}
+use Rattle.numbers.proofs.Flags.{struck, kept}
 use Rattle.book_state.specs.Arrays.{cells}
 use Rattle.lamps.specs.Mask.{is_mask_of}
 use Rattle.lamps.proofs.Mask.{mask_more, mask_short}
 use Rattle.lamps.proofs.body.is_mask.Goals as goal
+use Rattle.lamps.proofs.body.is_mask.Goals.{then-mask-i-gt1, else-mask-i-gt1}
 
 pub returns-then-mask-lt-CELLS : goal.returns-then-mask-lt-CELLS
 returns-then-mask-lt-CELLS c = sym (mask_short cells _ c.if-mask-lt-CELLS.true)
@@ -27,7 +27,10 @@ loop-i-preserved c =
     let mask = c.args.mask.now in
     let i = c.loop-i.i in (
       omega (arith, c.loop-i-test.true),
-      flagged {t = leb (get_or mask i 0) 1} (λ w. lt-leb _ 1 w.taken) (λ w. le-leb _ 1 w.left) c.if-mask-i-gt1.branch
+      (elim c.if-mask-i-gt1.branch [
+        | then-mask-i-gt1 w ↦ struck {t = leb (get_or mask i 0) 1} _ (lt-leb _ 1 w.if-mask-i-gt1.true) w.fine-is
+        | else-mask-i-gt1 w ↦ kept {t = leb (get_or mask i 0) 1} (le-leb _ 1 w.if-mask-i-gt1.false) w.fine-is
+      ])
           ∙ ap (λ t. t && leb (get_or mask i 0) 1) c.loop-i.invariant.1
           ∙ sym (mask_more i mask (omega (arith, c.if-mask-lt-CELLS.false, c.loop-i-test.true)))
           ∙ ap (λ n. is_mask_of n mask) (sym (add-one i)),

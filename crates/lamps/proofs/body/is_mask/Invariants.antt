@@ -1,16 +1,8 @@
 -- `lamps::body::is_mask` meets its contract: after i bytes the flag says whether all of them are 0 or 1.
 use Prim.Native.Nat.{◌-◌, ◌≤◌}
-use mathlib.Core.Path.{◌≡◌, refl, sym, ap, ◌∙◌}
-use mathlib.Core.Bool.{◌&&◌}
-use native.Mathlib.Omega.{arith}
-use native.Mathlib.Numerals.{add-one}
-use borrow.Author.Tests.{le-leb, lt-leb}
-use lib.Dec.{leb}
-use lib.ListN.{get_or}
-use Rattle.numbers.proofs.Flags.{flagged}
+use mathlib.Core.Path.{◌≡◌}
 use Rattle.book_state.specs.Arrays.{cells}
 use Rattle.lamps.specs.Mask.{is_mask_of}
-use Rattle.lamps.proofs.Mask.{mask_more, mask_short}
 use Rattle.lamps.proofs.body.is_mask.Given as goal
 
 abbrev pub invariant-loop-i : goal.invariant-loop-i

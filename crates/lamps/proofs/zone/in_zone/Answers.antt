@@ -1,7 +1,6 @@
 -- `lamps::zone::in_zone` meets its contract, test by test.
 use mathlib.Core.Path.{◌≡◌}
 use mathlib.Core.Bool.{true}
-use borrow.Author.Rules.{rules}
 use borrow.Author.Tests.{lt-ltb, le-ltb, le-leb, lt-leb}
 use lib.Dec.{ltb}
 use Rattle.cells.specs.Cell.{sectors, ring_of, sector_of}

@@ -1,22 +1,15 @@
 -- `lamps::zone::lamp_of` meets its contract: no cell below the one that is looked at lights the lamp, and none from ring 6 on.
-use Prim.Native.Nat.{ℕ, ◌-◌, ◌≤◌, ◌<◌}
-use mathlib.Core.Path.{◌≡◌, refl, sym, ◌∙◌}
-use mathlib.Core.Bool.{Bool, true, false, not, ◌&&◌}
+use Prim.Native.Nat.{ℕ, ◌-◌, ◌≤◌}
+use mathlib.Core.Path.{◌≡◌}
+use mathlib.Core.Bool.{Bool}
 use mathlib.Core.List.{List}
-use native.Mathlib.Omega.{arith}
-use lib.Dec.{eqb}
-use lib.ListN.{get_or}
-use Rattle.cells.specs.Cell.{sectors}
 use Rattle.book_state.specs.Arrays.{cells}
-use Rattle.lamps.specs.Zones.{in_zone_of}
-use Rattle.lamps.specs.Zones.Laws.{zone_low}
 use Rattle.lamps.specs.Lamps.{lamp_from}
 use Rattle.lamps.specs.Groups.{lights_by}
-use Rattle.lamps.proofs.Search.{lamp_found, lamp_past, lamp_none}
 use Rattle.lamps.proofs.zone.lamp_of.Given as goal
 
 -- the test of a cell
-abbrev test : (from end : ℕ) (first linked dark : List ℕ) → ℕ → Bool
+abbrev pub test : (from end : ℕ) (first linked dark : List ℕ) → ℕ → Bool
 test from end first linked dark = lights_by (record { from = from; end = end }) first linked dark
 
 abbrev pub invariant-loop-cell : goal.invariant-loop-cell
