@@ -1,40 +1,57 @@
 // Lists the groups at the end of a link file: reads the file from standard input, plays it and prints.
 //
-// A program in Rattle has no exit status to give. Where the input cannot be read nothing is listed, and standard error says so;
-// it says so too where the listing cannot be written. The script `kerblist` makes statuses of that.
+// Where the input cannot be read nothing is listed, and standard error says so; it says so too where the listing cannot be
+// written. The script `kerblist` makes statuses of that.
 #![tactic(auto)]
 
-use libc::{STDERR_FILENO, STDIN_FILENO, STDOUT_FILENO};
+ghost use Rattle.std.specs.Prelude.{◌≤◌, IfOk, length};
+
+use std::io;
+use std::io::{ErrorKind, Read, Write};
 
 // One byte more than the longest link file has tells that a file is too long.
 const MOST: usize = 64025;
 
-fn main() {
+fn main(rt: HostRuntime) -> io::Result<()> {
     let mut file = [0u8; MOST];
-    let bytes = io::read_full(STDIN_FILENO, &mut file);
-    if bytes < MOST {
-        if !ended() {
-            io::write_all(STDERR_FILENO, b"kerblist: standard input cannot be read\n");
-            return;
+    match read_full(&mut rt.stdin(), &mut file) {
+        Ok(bytes) => print_listing(&rt, &file[..bytes]),
+        Err(_) => rt
+            .stderr()
+            .write_all(b"kerblist: standard input cannot be read\n"),
+    }
+}
+
+// Reads until the input ends or the file is full, and says how many bytes that is.
+fn read_full<R: Read>(input: &mut R, file: &mut [u8]) -> io::Result<usize>
+    ensures { IfOk result (λ bytes. bytes ≤ length file.new) }
+{
+    let mut bytes = 0;
+    for _ in 0..u64::MAX {
+        if bytes == file.len() {
+            break;
+        }
+        match input.read(&mut file[bytes..]) {
+            Ok(0) => break,
+            Ok(more) => bytes += more,
+            Err(error) => {
+                if error.kind() != ErrorKind::Interrupted {
+                    return Err(error);
+                }
+            }
         }
     }
-    print_listing(&file[..bytes]);
+    Ok(bytes)
 }
 
-// Whether the input has ended. `io::read_full` stops there, and at a read that fails as well.
-fn ended() -> bool {
-    let mut beyond = [0u8; 1];
-    libc::read(STDIN_FILENO, &mut beyond) == 0
-}
-
-fn print_listing(file: &[u8]) {
+fn print_listing(rt: &HostRuntime, file: &[u8]) -> io::Result<()> {
     let mut out = [0u8; 20480];
     let listed = listing::list(file, &mut out);
     let length = listed.length;
-    if !io::write_all(STDOUT_FILENO, &out[..length]) {
-        io::write_all(
-            STDERR_FILENO,
-            b"kerblist: standard output cannot be written\n",
-        );
+    match rt.stdout().write_all(&out[..length]) {
+        Ok(()) => Ok(()),
+        Err(_) => rt
+            .stderr()
+            .write_all(b"kerblist: standard output cannot be written\n"),
     }
 }
