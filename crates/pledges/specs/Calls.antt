@@ -1,6 +1,7 @@
 -- The exported calls as the kit hands them out: nothing of a contract is quoted here. For each function F of a crate the kit generates
--- `Rattle.CRATE.specs.contracts.F` with its signature and its clauses, and `Rattle.CRATE.proofs.F` with its name and its code; and the theorem that the code meets the clauses, which is
--- taken up in the crate promises (proofs/Ends), since who names it has the prover read every proof that it rests on.
+-- `Rattle.CRATE.specs.contracts.F` with its signature and its clauses, and `Rattle.CRATE.proofs.F.Symbol` with its name and its code; and the
+-- theorem that the code meets the clauses, which is taken up in the crate promises (proofs/Ends), since who names it has the prover read
+-- every proof that it rests on.
 use Rattle.kerb.specs.contracts.kerb_book_size
 use Rattle.kerb.proofs.kerb_book_size.Symbol as kerb_book_size_symbol
 use Rattle.kerb.specs.contracts.kerb_lorry_cell

@@ -25,7 +25,8 @@ abbrev pub ClausesOf : Ended → Type 2
 ClausesOf T =
     (M : Type 1) (𝓤 : Ura M) → (𝓛 : Logic 𝓤) → (Memory → SProp 𝓤) → (Routine → Fun 𝓤) → Clauses 𝓤 T
 
--- a routine, the code of a function, meets the clauses: it ends, stays inside its memory, and they hold when it returns
+-- a function of this name meets the clauses wherever this code, with the code of all that it calls, stands under its names (`Wired`): it ends,
+-- stays inside its memory, and they hold when it returns
 abbrev pub RoutineMeets : (T : Ended) → Callee → Code → ClausesOf T → Type 2
 RoutineMeets T name code c =
     (M : Type 1) (𝓤 : Ura M) → (𝓛 : Logic 𝓤) (𝓜 : Model 𝓤 𝓛.H) (𝓡 : Running 𝓤 𝓛.H 𝓜) → Wired 𝓡.env code →
