@@ -1,5 +1,5 @@
 -- Checks that several calls make (RULES 7): a log that is long enough, and two cells. Each call's own list stands with the call.
-use Rattle.std.specs.Prelude.{ℕ, zero, suc, Bool, true, false, cond, ◌&&◌, List, [], ◌∷◌, ltb}
+use Rattle.std.specs.Prelude.{ℕ, Bool, ◌&&◌, ltb}
 use Rattle.numbers.specs.Kinds.{Cell}
 use Rattle.book_state.specs.Arrays.{cells}
 

@@ -1,6 +1,6 @@
 -- Number 1 (RULES 7): whether a book's fields are in their ranges and its walks within their
 -- steps. A book that was never opened is out of range: its n is 0.
-use Rattle.std.specs.Prelude.{ℕ, Bool, ◌&&◌, List, replicate}
+use Rattle.std.specs.Prelude.{Bool, ◌&&◌, replicate}
 use Rattle.numbers.specs.Kinds.{Counts, Labels, Parents, Sizes}
 use Rattle.cells.specs.declared.Fitting.{Fitting}
 use Rattle.settings.specs.Settings.{held_in_range}

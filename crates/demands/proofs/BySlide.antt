@@ -49,6 +49,7 @@ pub record InSlide (wanted : ℕ → Bool) (k : ℕ) (ss : List Stored) (x y : �
 -- and a picked link belongs to a wanted slide
 pub in_slide : (wanted : ℕ → Bool) {k : ℕ} {ss : List Stored} → Falling k ss → (x y : ℕ) → Linked x y (links_of (of_slides wanted ss)) → InSlide wanted k ss x y
 unfolding of_slides
+in_slide wanted (none {k = k}) x y h = elim h [ ]
 in_slide wanted {k} (next {s} {ss} le _ _ falls) x y h = go (wanted s.slide) refl h (λ l. later (in_slide wanted falls x y l))
   where
     later : InSlide wanted s.slide ss x y → InSlide wanted k (s ∷ ss) x y

@@ -33,6 +33,7 @@ use Rattle.demands.proofs.NumbersAgree.{chain_gives_lem}
 
 -- both ends of each link are below n
 inside : {n : ℕ} {xs : List Labelled} → EndsBelow n xs → Inside n (map (λ x. x.link) xs)
+inside {n = n} Rattle.graph.specs.Forest.empty x y h = elim h [ ]
 inside (also p ps) x y (here (along e f)) = rw (← e) p.0
 inside (also p ps) x y (here (against e f)) = rw (← f) p.1
 inside (also p ps) x y (there l) = inside ps x y l

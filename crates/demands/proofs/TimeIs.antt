@@ -70,7 +70,7 @@ difference_is : {h : History} → Timed h → (tick : ℕ) → difference_of h.c
 difference_is {h} t tick = rw t.time (ahead_turns (latest_in h) tick)
 
 moved_timed : (h : History) (tick : ℕ) → not_before_of h.clock tick ≡ true → Timed h → Timed (with_time h tick)
-unfolding sum_of latest_of
+unfolding sum_of latest_of moved_to
 moved_timed h tick later t =
     record {
       total = moved_total h.clock tick later ∙ rw (moved_t0 h.clock tick) (ap₂ ◌+◌ t.total (difference_is t tick));

@@ -1,6 +1,6 @@
 -- What the customer demands of any implementation, after any calls from any book and log (RULES 10.5). A history is what the calls
 -- and the table tell (History); there is one once an opening has given 0.
-use Rattle.std.specs.Prelude.{ℕ, ◌+◌, ◌-◌, ◌*◌, ◌/◌, ◌^◌, ◌%◌, ◌≤◌, ◌<◌, ◌≡◌, ◌↔◌, ◌⊎◌, Bool, true, false, List, [], ◌∷◌, ◌++◌, map, eqb, length, get_or, take, drop}
+use Rattle.std.specs.Prelude.{ℕ, ◌+◌, ◌-◌, ◌*◌, ◌/◌, ◌^◌, ◌%◌, ◌≤◌, ◌<◌, ◌≡◌, ◌↔◌, ◌⊎◌, Bool, true, false, List, [], ◌∷◌, map, eqb, length, get_or, take, drop}
 use Rattle.std.proofs.Math.Option.{some}
 use Rattle.numbers.specs.Kinds.{Bytes, Cell, Log, Number, Slide, Tick}
 use Rattle.graph.specs.Link.{Linked, Chained, chains}

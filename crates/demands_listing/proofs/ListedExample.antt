@@ -79,6 +79,7 @@ unnamed c d h (there (here (along p q))) = omega arith
 unnamed c d h (there (here (against p q))) = omega arith
 unnamed c d h (there (there (here (along p q)))) = omega arith
 unnamed c d h (there (there (here (against p q)))) = omega arith
+unnamed c d h (there (there (there l))) = elim l [ ]
 
 low_lines : lines_of (group_line_in told) (count_from 0 7) ≡ line group_word (3 ∷ 4 ∷ 0 ∷ [])
 unfolding lines_of count_from group_line_if filter smallest least_with least_over hold_within chains of_slides open_slide_of fields decimal digits

@@ -38,11 +38,13 @@ rising_lower none = none
 rising_lower {k} (next {x = x} h on) = next {least = k} {x = x} (omega arith) on
 
 rising_least : {k d : ℕ} {cs : List ℕ} → Rising k cs → Memᴰ d cs → k ≤ d
+rising_least {d = d} (none {least = least}) m = elim m [ ]
 rising_least (next h on) (Memᴰ.head e) = omega arith
 rising_least (next h on) (Memᴰ.tail m) = omega (arith, rising_least on m)
 
 rising_first : {k d : ℕ} {cs : List ℕ} → Rising k cs → Memᴰ d cs → smallest cs ≤ d
 unfolding smallest
+rising_first {k = k} {d = d} none m = elim m [ ]
 rising_first (next h on) (Memᴰ.head e) = omega arith
 rising_first (next h on) (Memᴰ.tail m) = omega (arith, rising_least on m)
 

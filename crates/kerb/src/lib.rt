@@ -2,7 +2,7 @@
 // then a length. Every call promises what its definition says, for every input. Here are the small ones that every caller needs: cell
 // numbers, one record's bytes, and what a caller's header must agree with. The calls over a book have crates of their own: opening
 // and play, link and clock (`kerb_time`), joined, chain, groups, slides; those over whole link files are in `kerb_file`. The archive
-// libkerb.a is made of them all.
+// libkerb.a (`kerb_c`) exports them all.
 #![tactic(auto)]
 
 ghost use Rattle.std.specs.Prelude.{◌≡◌, length, replicate};

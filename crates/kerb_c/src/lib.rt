@@ -1,6 +1,7 @@
 // The archive libkerb.a, for C and Rust: each export calls the function of the same name in the crates kerb, kerb_opening, kerb_time, kerb_play,
 // kerb_joined, kerb_chain, kerb_groups, kerb_lamps, kerb_slides, kerb_file and kerb_text, and states its clauses again, word for word
-// (tools/archive compares them). Those crates are libraries, which the crate pledges speaks of; no crate can stand on this one.
+// (tools/exports compares them). Those crates are libraries, and the crate pledges speaks of their functions; that each export meets what is
+// pledged of its function is proved in proofs/Exports.
 #![tactic(auto)]
 
 ghost use Rattle.book.specs.Calls.{Gives, opening_of, link_of, clock_of};

@@ -1,6 +1,6 @@
 -- The text of a file, stage by stage: what reading, opening and playing give decides it. A book that was opened and played into
 -- can be listed (crates/file_play/proofs/Playing.antt).
-use Prim.Native.Nat.{ℕ, zero, suc, ◌*◌, ◌≤◌}
+use Prim.Native.Nat.{ℕ, zero, suc, ◌≤◌}
 use mathlib.Core.Path.{◌≡◌, refl, sym, ap, ◌∙◌}
 use mathlib.Core.Bool.{Bool, true, false}
 use mathlib.Core.List.{List}

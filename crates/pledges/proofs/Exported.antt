@@ -123,7 +123,7 @@ pub code_meets : {f : Exported} {definition : Definition f} {demand : Claim f} �
     ((κs : Lifetimes f) (a : Given f κs) → Of f definition demand κs a (definition κs a)) → CodeMeets f demand
 code_meets {f} {definition} {demand} met p holds =
     record {
-      meets = λ M 𝓤 𝓛 𝓜 𝓡.
+      meets = λ M 𝓤 𝓛 𝓜 𝓡 wired.
           let w : World = record { M = M; 𝓤 = 𝓤; 𝓛 = 𝓛; 𝓜 = 𝓜; 𝓡 = 𝓡 } in
           weaken_under 𝓛 f.ended (contract_at f w)
           (λ κs a. record { ghost = Unit {0}; requires = λ g. emp 𝓤; ensures = λ g r e. fact 𝓤 (demand κs a r e) })
@@ -132,5 +132,5 @@ code_meets {f} {definition} {demand} met p holds =
           (λ κs a g _ r ws. mono_r 𝓤 (sem 𝓛 (lasts f.ended κs a ws))
           (via 𝓤 (fact 𝓤 (◌≡◌ {A = Result f κs a} (r, ws) (definition κs a))) ((p.exactly w κs a).only (p.exactly w κs a).ghost (r, ws))
           (fact_mono 𝓤 _ (demand κs a r (at_exit f.ended κs a ws)) (λ e. subst⁻¹ (λ t. Of f definition demand κs a t) e (holds κs a)))))
-          (𝓡.run f.routine) (routine_mono 𝓤 𝓛.H 𝓜 𝓡 f.routine) (met M 𝓤 𝓛 𝓜 𝓡);
+          (𝓡.run (𝓡.env f.name)) (routine_mono 𝓤 𝓛.H 𝓜 𝓡 (𝓡.env f.name)) (met M 𝓤 𝓛 𝓜 𝓡 wired);
     }

@@ -8,7 +8,9 @@ use seplogic.Ra.Ura.{Ura}
 use base.Logic.{SProp, ent, sep, emp}
 use prog.Memory.{Memory}
 use prog.Model.{Model}
+use mir.Syntax.{Callee}
 use prog.Routine.{Routine}
+use prog.Wired.{Code, Wired}
 use types.Logic.{Logic}
 use contract.Lifetimes.{Lfts}
 use contract.Monad.{Fun, fact}
@@ -23,22 +25,24 @@ abbrev pub ClausesOf : Ended → Type 2
 ClausesOf T =
     (M : Type 1) (𝓤 : Ura M) → (𝓛 : Logic 𝓤) → (Memory → SProp 𝓤) → (Routine → Fun 𝓤) → Clauses 𝓤 T
 
--- a routine, the code of a function, meets the clauses: it ends, stays inside its memory, and they hold when it returns
-abbrev pub RoutineMeets : (T : Ended) → Routine → ClausesOf T → Type 2
-RoutineMeets T ρ c =
-    (M : Type 1) (𝓤 : Ura M) (𝓛 : Logic 𝓤) (𝓜 : Model 𝓤 𝓛.H) (𝓡 : Running 𝓤 𝓛.H 𝓜) →
-    Meets 𝓛 T.signature (𝓡.run ρ) (closing 𝓛 T (c M 𝓤 𝓛 𝓜.mem 𝓡.run))
+-- a function of this name meets the clauses wherever this code, with the code of all that it calls, stands under its names (`Wired`): it ends,
+-- stays inside its memory, and they hold when it returns
+abbrev pub RoutineMeets : (T : Ended) → Callee → Code → ClausesOf T → Type 2
+RoutineMeets T name code c =
+    (M : Type 1) (𝓤 : Ura M) → (𝓛 : Logic 𝓤) (𝓜 : Model 𝓤 𝓛.H) (𝓡 : Running 𝓤 𝓛.H 𝓜) → Wired 𝓡.env code →
+    Meets 𝓛 T.signature (𝓡.run (𝓡.env name)) (closing 𝓛 T (c M 𝓤 𝓛 𝓜.mem 𝓡.returns))
 
 -- a function, exported from the library or from a crate: its signature, its contract and its code
 pub record Exported : Type 3 where
   pub ended : Ended
   pub clauses : ClausesOf ended
-  pub routine : Routine
+  pub name : Callee
+  pub code : Code
 
 module _ (f : Exported) where
   -- its code meets its contract
   abbrev pub Met : Type 2
-  Met = RoutineMeets f.ended f.routine f.clauses
+  Met = RoutineMeets f.ended f.name f.code f.clauses
 
   abbrev pub Lifetimes : Type 0
   Lifetimes = Lfts f.ended.signature.lifetimes
@@ -69,7 +73,7 @@ module _ (f : Exported) where
 
   -- its contract for these arguments, at a model
   abbrev pub contract_at : (w : World) (κs : Lifetimes) (a : Given κs) → ClausesAt w.𝓤 f.ended κs
-  contract_at w = f.clauses w.M w.𝓤 w.𝓛 w.𝓜.mem w.𝓡.run
+  contract_at w = f.clauses w.M w.𝓤 w.𝓛 w.𝓜.mem w.𝓡.returns
 
   module _ (w : World) (κs : Lifetimes) (a : Given κs) where
     -- what a contract's `ensures` says of a result
@@ -91,7 +95,7 @@ module _ (f : Exported) where
 
   -- the code itself, called with anything at all, meets a demand
   pub record CodeMeets (demand : Claim) : Type 2 where
-    pub meets : RoutineMeets f.ended f.routine λ M 𝓤 𝓛 mem run κs a.
+    pub meets : RoutineMeets f.ended f.name f.code λ M 𝓤 𝓛 mem run κs a.
         record { ghost = Unit {0}; requires = λ g. emp 𝓤; ensures = λ g r e. fact 𝓤 (demand κs a r e) }
 
   -- what is returned and what is left are the definition's

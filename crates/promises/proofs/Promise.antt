@@ -11,7 +11,7 @@ use Rattle.demands.proofs.Table.{table}
 use Rattle.demands.proofs.TimeIs.{time}
 use Rattle.demands.proofs.Touching.{touching}
 use Rattle.demands.proofs.Unassigned.{eight_unassigned}
-use Rattle.demands_cases.specs.Cases.{cases}
+use Rattle.demands_cases.proofs.Cases.{cases}
 use Rattle.demands_listing.proofs.Listed.{listed}
 use Rattle.pledges.proofs.Single.{single}
 use Rattle.text_list.proofs.Texts.{texts}

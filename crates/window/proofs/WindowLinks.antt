@@ -7,11 +7,10 @@ use mathlib.Core.Bool.{Bool, true, false, cond, ◌&&◌}
 use mathlib.Core.List.{List, [], ◌∷◌, ◌++◌, map, append-nil, append_assoc, map-append}
 use native.Mathlib.Omega.{arith}
 use native.Mathlib.Nat.{le_refl, le_trans, zero-add, add-zero, add-suc, suc-add}
-use borrow.Author.Tests.{ltb-true}
 use lib.Dec.{ltb}
 use lib.ListN.{length, get_or, length-append, length-map}
 use Rattle.graph.specs.Link.{Link}
-use Rattle.graph.specs.Forest.{Labelled, at_least, Each, empty, also, EndsBelow}
+use Rattle.graph.specs.Forest.{Labelled, at_least, Each, empty, EndsBelow}
 use Rattle.graph.proofs.Cut.{each_map, all_at_least}
 use Rattle.slides.specs.Clock.{open_slide_of}
 use Rattle.slides.specs.declared.Clock.{Clock}

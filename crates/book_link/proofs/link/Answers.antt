@@ -1,9 +1,6 @@
 -- `book_link::link` meets its contract: a book that is not in order gives 1 and stays as it is, and any other is linked.
-use mathlib.Core.Path.{◌≡◌, refl, sym, ◌∙◌}
+use mathlib.Core.Path.{refl, sym, ◌∙◌}
 use native.Mathlib.Omega.{arith}
-use borrow.Author.Rules.{rules}
-use borrow.Author.Tests.{not-true, not-false}
-use Rattle.book_state.specs.declared.Book.{Book}
 use Rattle.book_state.specs.Order.{book_of}
 use Rattle.numbers.proofs.Checks.{fails}
 use Rattle.book.specs.Calls.{link_number_of, link_by_number, link_of}

@@ -3,7 +3,6 @@
 use Prim.Native.Nat.{ℕ}
 use mathlib.Core.List.{List}
 use mathlib.Core.Path.{◌≡◌, refl, sym, ap, ◌∙◌}
-use borrow.Author.Rules.{rules}
 use Rattle.cells.specs.Cell.{lorry_cell_of}
 use Rattle.book_state.specs.declared.Book.{Book}
 use Rattle.book_state.specs.Order.{book_of, in_order_of}
@@ -11,7 +10,7 @@ use Rattle.book_state.specs.Log.{stored, stored_in}
 use Rattle.book_time.specs.Time.{moved_book}
 use Rattle.book.specs.Calls.{Outcome, Gives, Room, link_number_in, link_number_of, link_stored, link_by_number, link_of}
 use Rattle.book_state.proofs.Checks.{readable}
-use Rattle.book.proofs.Taken.{refused, Taken, taken, link_room}
+use Rattle.book.proofs.Taken.{refused, taken, link_room}
 use Rattle.book_link.proofs.link_in_order.Goals as goal
 use Rattle.book_link.proofs.link_in_order.Goals.{After-link_number-number, Else-number-ne0}
 

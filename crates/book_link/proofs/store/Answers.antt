@@ -1,8 +1,7 @@
 -- `book_link::store` meets its contract: the spot is the open slide's, and each store is one of the definition's.
 use Prim.Native.Nat.{◌<◌}
-use mathlib.Core.Path.{◌≡◌, refl, sym, ap, ◌∙◌}
+use mathlib.Core.Path.{◌≡◌, ap, ◌∙◌}
 use native.Mathlib.Omega.{arith}
-use borrow.Author.Rules.{rules}
 use lib.ListN.{get_or, length-set}
 use Rattle.slides.specs.Clock.{chunk_of, place_of}
 use Rattle.book_state.specs.Log.{half_of, spot_of}

@@ -1,5 +1,4 @@
 -- `book_state::are_cells` meets its contract: where the first is no cell the second is not asked.
-use mathlib.Core.Path.{sym}
 use borrow.Author.Tests.{lt-ltb, le-ltb}
 use Rattle.book_state.proofs.are_cells.Goals as goal
 

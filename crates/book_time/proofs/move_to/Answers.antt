@@ -8,7 +8,6 @@ use borrow.Author.Rules.{rules}
 use Rattle.cells.specs.declared.Fitting.{Fitting}
 use Rattle.slides.specs.Clock.{chunk_of}
 use Rattle.slides.proofs.Slides.{chunk_later}
-use Rattle.book_state.specs.declared.Book.{Book}
 use Rattle.book_state.specs.Order.{book_of}
 use Rattle.book_time.specs.Time.{cleared, emptied, stayed, turned}
 use Rattle.book_time.proofs.Moves.{chunk_before, chunk_after, moved_same, moved_next, moved_further, emptied_made, backward_built, turned_made, other_half}

@@ -1,14 +1,9 @@
 -- `book_time::unite_chunk` meets its contract: the places from `place` on are united (proofs/Scan.antt), down to place 1.
-use Prim.Native.Nat.{◌+◌, ◌-◌, ◌*◌, ◌≤◌}
-use mathlib.Core.Path.{refl}
-use native.Mathlib.Omega.{arith}
-use lib.ListN.{get_or}
+use Prim.Native.Nat.{◌-◌}
 use Rattle.book_state.specs.Arrays.{arrays_of}
 use Rattle.book_state.specs.Log.{chunk_links}
-use Rattle.book_state.proofs.Passes.{place_parts}
 use Rattle.forest_beside.specs.Beside.{Beside}
-use Rattle.forest_beside.proofs.Advancing.{beside_fresh}
-use Rattle.book_time.proofs.Scan.{Scanned, scanned_none, scanned_one, scanned_all}
+use Rattle.book_time.proofs.Scan.{Scanned}
 use Rattle.book_time.proofs.unite_chunk.Given as goal
 
 abbrev pub invariant-loop-place : goal.invariant-loop-place

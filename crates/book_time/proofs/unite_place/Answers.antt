@@ -1,10 +1,8 @@
 use mathlib.Core.Path.{refl, ◌∙◌, ap}
 use native.Mathlib.Omega.{arith}
-use borrow.Author.Rules.{rules}
-use Rattle.book_state.specs.Arrays.{arrays_of, united_all}
-use Rattle.book_state.proofs.Passes.{pairs_from, pairs_all, pair_parts}
-use Rattle.forest_beside.specs.Beside.{Beside}
-use Rattle.book_time.proofs.Scan.{Scanned, scanned_none, scanned_one, scanned_all}
+use Rattle.book_state.specs.Arrays.{united_all}
+use Rattle.book_state.proofs.Passes.{pairs_all, pair_parts}
+use Rattle.book_time.proofs.Scan.{scanned_none, scanned_one, scanned_all}
 use Rattle.book_time.proofs.unite_place.Goals as goal
 
 pub loop-left-init : goal.loop-left-init

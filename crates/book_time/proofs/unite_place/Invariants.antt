@@ -1,11 +1,8 @@
 -- `book_time::unite_place` meets its contract: the pairs from `left` on are united (proofs/Scan.antt).
-use mathlib.Core.Path.{refl, ◌∙◌, ap}
-use native.Mathlib.Omega.{arith}
-use borrow.Author.Rules.{rules}
-use Rattle.book_state.specs.Arrays.{arrays_of, united_all}
-use Rattle.book_state.proofs.Passes.{pairs_from, pairs_all, pair_parts}
+use Rattle.book_state.specs.Arrays.{arrays_of}
+use Rattle.book_state.proofs.Passes.{pairs_from}
 use Rattle.forest_beside.specs.Beside.{Beside}
-use Rattle.book_time.proofs.Scan.{Scanned, scanned_none, scanned_one, scanned_all}
+use Rattle.book_time.proofs.Scan.{Scanned}
 use Rattle.book_time.proofs.unite_place.Given as goal
 
 abbrev pub invariant-loop-left : goal.invariant-loop-left

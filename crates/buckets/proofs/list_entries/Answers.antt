@@ -1,10 +1,9 @@
-use Prim.Native.Nat.{◌≤◌, ◌<◌}
+use Prim.Native.Nat.{◌<◌}
 use mathlib.Core.Path.{◌≡◌, refl, ◌∙◌}
 use native.Mathlib.Nat.{le_refl}
 use native.Mathlib.Omega.{arith}
-use lib.ListN.{length, drop, length-set}
+use lib.ListN.{length, length-set}
 use lib.Seq.{drop-set-lt}
-use Rattle.buckets.specs.Listed.{Listed}
 use Rattle.buckets.proofs.Listing.{list_turn}
 use Rattle.buckets.proofs.list_entries.Goals as goal
 use Rattle.buckets.proofs.list_entries.Goals.{After-entry_at-key}

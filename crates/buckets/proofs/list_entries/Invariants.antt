@@ -1,13 +1,9 @@
 -- `buckets::list_entries` meets its contract. The loop's invariant: the entries at `entry` and after are listed; a turn lists one entry
 -- more (`list_turn`). The measure is `entry`.
 use Prim.Native.Nat.{◌≤◌, ◌<◌}
-use mathlib.Core.Path.{◌≡◌, refl, ◌∙◌}
-use native.Mathlib.Nat.{le_refl}
-use native.Mathlib.Omega.{arith}
-use lib.ListN.{length, drop, length-set}
-use lib.Seq.{drop-set-lt}
+use mathlib.Core.Path.{◌≡◌}
+use lib.ListN.{length, drop}
 use Rattle.buckets.specs.Listed.{Listed}
-use Rattle.buckets.proofs.Listing.{list_turn}
 use Rattle.buckets.proofs.list_entries.Given as goal
 
 abbrev pub invariant-loop-entry : goal.invariant-loop-entry

@@ -1,5 +1,4 @@
 -- `cells::lorry_cell` meets its contract: each return rewrites the definition's test by the branch that led there.
-use borrow.Author.Rules.{rules}
 use borrow.Author.Tests.{eq-eqb, ne_eqb}
 use Rattle.cells.specs.Cell.{lorry_cell_over}
 use Rattle.cells.proofs.lorry_cell.Goals as goal

@@ -2,7 +2,6 @@
 -- 16 bits; a number that is no cell is its own mirror.
 use mathlib.Core.Path.{sym}
 use native.Mathlib.Omega.{arith}
-use borrow.Author.Rules.{rules}
 use Rattle.cells.specs.Cell.{sectors}
 use Rattle.cells.specs.Cell.Laws.{mirror_number, mirror_other}
 use Rattle.cells.proofs.mirrored.Goals as goal

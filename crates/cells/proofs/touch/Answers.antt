@@ -4,7 +4,6 @@ use Prim.Native.Nat.{ℕ, ◌+◌, ◌≤◌}
 use mathlib.Core.Path.{◌≡◌, ◌∙◌, sym, ap, subst}
 use mathlib.Core.Bool.{false}
 use native.Mathlib.Numerals.{add-one}
-use borrow.Author.Rules.{rules}
 use lib.Dec.{eqb, eqb-suc-suc}
 use Rattle.cells.specs.Cell.{sectors, ring_of, sector_of}
 use Rattle.cells.specs.Touching.{difference, touch}

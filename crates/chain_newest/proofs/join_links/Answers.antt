@@ -1,6 +1,5 @@
 use Prim.Native.Nat.{◌-◌}
-use native.Mathlib.Omega.{arith}
-use Rattle.chain_newest.proofs.Following.{Joining, joining_none, joining_met, joining_more, joining_all}
+use Rattle.chain_newest.proofs.Following.{joining_none, joining_met, joining_more, joining_all}
 use Rattle.chain_newest.proofs.join_links.Goals as goal
 
 pub loop-i-init : goal.loop-i-init

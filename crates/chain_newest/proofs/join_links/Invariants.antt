@@ -1,7 +1,6 @@
 -- `chain_newest::join_links` meets its contract: the pairs before i are joined (proofs/Following.antt), until the two cells meet.
 use Prim.Native.Nat.{◌-◌}
-use native.Mathlib.Omega.{arith}
-use Rattle.chain_newest.proofs.Following.{Joining, joining_none, joining_met, joining_more, joining_all}
+use Rattle.chain_newest.proofs.Following.{Joining}
 use Rattle.chain_newest.proofs.join_links.Given as goal
 
 abbrev pub invariant-loop-i : goal.invariant-loop-i

@@ -1,8 +1,6 @@
 -- `chain_newest::join_pair` meets its contract: a pair of cells is one link, and any other pair is none.
 use mathlib.Core.Bool.{true}
 use mathlib.Core.Path.{◌≡◌, sym, ◌∙◌}
-use borrow.Author.Rules.{rules}
-use borrow.Author.Tests.{not-true, not-false}
 use Rattle.book_state.specs.Numbers.{are_cells_of}
 use Rattle.book_state.proofs.Checks.{two_cells}
 use Rattle.chain_newest.proofs.Following.{follows_none, follows_same, follows_moved}

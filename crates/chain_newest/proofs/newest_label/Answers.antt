@@ -1,12 +1,11 @@
 use Prim.Native.Nat.{◌-◌, ◌≤◌, ◌<◌}
 use mathlib.Core.Path.{◌≡◌}
 use native.Mathlib.Omega.{arith}
-use borrow.Author.Rules.{rules}
 use lib.ListN.{get_or}
 use Rattle.slides.specs.Clock.{open_slide_of}
 use Rattle.slides.proofs.Slides.{place_below}
 use Rattle.window.specs.Window.{window_slides_of}
-use Rattle.chain_newest.proofs.Newest.{Searching, label_same, searching_none, searched, searching_met, searching_more}
+use Rattle.chain_newest.proofs.Newest.{label_same, searching_none, searched, searching_met, searching_more}
 use Rattle.chain_newest.proofs.newest_label.Goals as goal
 use Rattle.chain_newest.proofs.newest_label.Goals.{After-spot-spot, After-window_slides-slides, In-loop-age}
 

@@ -1,8 +1,5 @@
-use Prim.Native.Nat.{◌-◌}
 use mathlib.Core.Path.{refl}
-use native.Mathlib.Omega.{arith}
-use Rattle.forest.specs.Arrays.{places}
-use Rattle.forest.proofs.Fill.{Filled, fill_none, fill_one, fill_count}
+use Rattle.forest.proofs.Fill.{fill_none, fill_one, fill_count}
 use Rattle.forest.proofs.fresh_parents.Goals as goal
 
 pub loop-cell-init : goal.loop-cell-init

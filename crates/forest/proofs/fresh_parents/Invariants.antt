@@ -1,9 +1,7 @@
 -- `forest::fresh_parents` meets its contract: entry c is filled with c.
 use Prim.Native.Nat.{◌-◌}
-use mathlib.Core.Path.{refl}
-use native.Mathlib.Omega.{arith}
 use Rattle.forest.specs.Arrays.{places}
-use Rattle.forest.proofs.Fill.{Filled, fill_none, fill_one, fill_count}
+use Rattle.forest.proofs.Fill.{Filled}
 use Rattle.forest.proofs.fresh_parents.Given as goal
 
 abbrev pub invariant-loop-cell : goal.invariant-loop-cell

@@ -2,7 +2,6 @@
 -- (proofs/Advancing.antt).
 use Prim.Native.Nat.{◌<◌}
 use native.Mathlib.Omega.{arith}
-use borrow.Author.Rules.{rules}
 use Rattle.forest.specs.Arrays.{places}
 use Rattle.forest_beside.proofs.Advancing.{roots_inside, least_inside, same_made, apart_made}
 use Rattle.forest_beside.proofs.unite.Goals as goal

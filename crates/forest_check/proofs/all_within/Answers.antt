@@ -1,12 +1,8 @@
 use Prim.Native.Nat.{◌-◌}
 use native.Mathlib.Omega.{arith}
-use borrow.Author.Rules.{rules}
 use borrow.Author.Tests.{le-leb, lt-leb}
-use mathlib.Core.Bool.{◌&&◌}
-use lib.Dec.{leb, ltb}
-use lib.ListN.{length, get_or}
-use Rattle.forest_check.specs.Sound.{within}
-use Rattle.forest_check.proofs.Every.{Tested, tested_none, tested_first, tested_more, tested_all}
+use lib.ListN.{get_or}
+use Rattle.forest_check.proofs.Every.{tested_none, tested_first, tested_more, tested_all}
 use Rattle.forest_check.proofs.Extremes.{both_more}
 use Rattle.forest_check.proofs.all_within.Goals as goal
 

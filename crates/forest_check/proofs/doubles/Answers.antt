@@ -1,13 +1,11 @@
 use Prim.Native.Nat.{◌+◌, ◌-◌}
-use borrow.Author.Rules.{rules}
 use mathlib.Core.Path.{sym, ap, ◌∙◌}
 use mathlib.Core.Bool.{◌&&◌}
 use native.Mathlib.Omega.{arith}
 use lib.Dec.{eqb}
 use lib.ListN.{length, get_or}
-use Rattle.forest_check.specs.Sound.{doubles_at}
 use Rattle.forest_check.proofs.Doubling.{doubles_lack}
-use Rattle.forest_check.proofs.Every.{Tested, tested_none, tested_more, tested_all, every_each, within_high}
+use Rattle.forest_check.proofs.Every.{tested_none, tested_more, tested_all, every_each, within_high}
 use Rattle.forest_check.proofs.Extremes.{none_more}
 use Rattle.forest_check.proofs.doubles.Goals as goal
 

@@ -1,6 +1,5 @@
 -- `forest_check::ends_from` meets its contract: a root's walk ends, and any other cell's where its parent's does with a step less.
 use Prim.Native.Nat.{ℕ, ◌-◌}
-use borrow.Author.Rules.{rules}
 use mathlib.Core.Path.{◌≡◌, sym, ap, ◌∙◌}
 use lib.Dec.{eqb}
 use Rattle.graph.specs.Forest.{climb}

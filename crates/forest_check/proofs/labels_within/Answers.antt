@@ -1,11 +1,7 @@
 use Prim.Native.Nat.{◌-◌}
-use borrow.Author.Rules.{rules}
 use borrow.Author.Tests.{le-leb, lt-leb}
-use native.Mathlib.Omega.{arith}
-use lib.Dec.{leb}
-use lib.ListN.{length}
 use Rattle.numbers.proofs.Flags.{struck, kept}
-use Rattle.forest_check.proofs.Every.{Tested, tested_none, tested_more, tested_all}
+use Rattle.forest_check.proofs.Every.{tested_none, tested_more, tested_all}
 use Rattle.forest_check.proofs.labels_within.Goals as goal
 use Rattle.forest_check.proofs.labels_within.Goals.{then-bound-label, else-bound-label}
 

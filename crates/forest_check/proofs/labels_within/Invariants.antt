@@ -1,12 +1,8 @@
 -- `forest_check::labels_within` meets its contract: a pass with a flag (proofs/Every.antt).
 use Prim.Native.Nat.{◌-◌}
-use borrow.Author.Rules.{rules}
-use borrow.Author.Tests.{le-leb, lt-leb}
-use native.Mathlib.Omega.{arith}
 use lib.Dec.{leb}
 use lib.ListN.{length}
-use Rattle.numbers.proofs.Flags.{flagged}
-use Rattle.forest_check.proofs.Every.{Tested, tested_none, tested_more, tested_all}
+use Rattle.forest_check.proofs.Every.{Tested}
 use Rattle.forest_check.proofs.labels_within.Given as goal
 
 abbrev pub invariant-loop-i : goal.invariant-loop-i

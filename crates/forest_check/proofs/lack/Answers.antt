@@ -1,5 +1,4 @@
 -- `forest_check::lack` meets its contract: each test decides, and a difference is cut off at 0.
-use borrow.Author.Rules.{rules}
 use borrow.Author.Tests.{eq-eqb, ne_eqb}
 use native.Mathlib.Omega.{arith}
 use Rattle.forest_check.proofs.lack.Goals as goal

@@ -1,5 +1,4 @@
 -- `forest_check::reaches` meets its contract: below 64 the power is exact, and at 64 and more it is above every number of cells.
-use borrow.Author.Rules.{rules}
 use borrow.Author.Tests.{le-leb, lt-leb}
 use mathlib.Core.Path.{sym, ap, ◌∙◌}
 use native.Mathlib.Nat.{one-mul, le_trans, le_of_lt}

@@ -1,10 +1,7 @@
 use Prim.Native.Nat.{◌-◌}
-use borrow.Author.Rules.{rules}
 use mathlib.Core.Path.{refl}
 use native.Mathlib.Omega.{arith}
-use lib.ListN.{length, get_or}
-use Rattle.forest.specs.Arrays.{places}
-use Rattle.forest.proofs.Fill.{Filled, fill_one}
+use Rattle.forest.proofs.Fill.{fill_one}
 use Rattle.forest_check.proofs.Every.{every_each, within_high}
 use Rattle.forest_check.proofs.sizes_above.Goals as goal
 

@@ -1,12 +1,8 @@
 -- `forest_check::sizes_above` meets its contract: entry c is filled with the size of c's parent, which is a cell.
 use Prim.Native.Nat.{◌-◌}
-use borrow.Author.Rules.{rules}
-use mathlib.Core.Path.{refl}
-use native.Mathlib.Omega.{arith}
 use lib.ListN.{length, get_or}
 use Rattle.forest.specs.Arrays.{places}
-use Rattle.forest.proofs.Fill.{Filled, fill_one}
-use Rattle.forest_check.proofs.Every.{every_each, within_high}
+use Rattle.forest.proofs.Fill.{Filled}
 use Rattle.forest_check.proofs.sizes_above.Given as goal
 
 abbrev pub invariant-loop-i : goal.invariant-loop-i

@@ -1,14 +1,11 @@
 -- `forest_check::sound` meets its contract: each test is one of the definition's. Where the sizes double, every walk
 -- ends (proofs/Doubling.antt); otherwise the walks decide, as the definition says.
 use Prim.Native.Nat.{◌+◌, ◌^◌, ◌≤◌}
-use borrow.Author.Tests.{eq-eqb, ne_eqb, not-true, not-false, leb-true}
+use borrow.Author.Tests.{eq-eqb, ne_eqb, leb-true}
 use mathlib.Core.Path.{◌≡◌, sym, ◌∙◌}
 use mathlib.Core.Bool.{true, and-eq-true_iff}
-use native.Mathlib.Omega.{arith}
-use lib.Dec.{eqb}
 use lib.ListN.{length}
 use Rattle.forest.specs.Arrays.{places}
-use Rattle.forest.proofs.Ranged.{Ranged}
 use Rattle.forest_check.specs.Sound.{every, within}
 use Rattle.forest_check.proofs.Doubling.{doubles_end}
 use Rattle.forest_check.proofs.Facts.{ranged}

@@ -1,13 +1,9 @@
 use Prim.Native.Nat.{◌-◌}
-use borrow.Author.Tests.{not-true, not-false}
 use mathlib.Core.Path.{refl, sym, ◌∙◌}
 use mathlib.Core.Bool.{true}
-use native.Mathlib.Omega.{arith}
-use lib.ListN.{length}
 use Rattle.numbers.proofs.Flags.{struck, kept}
-use Rattle.forest_check.specs.Sound.{ends_from_of}
 use Rattle.forest_check.proofs.Ends.{ends_from_ends}
-use Rattle.forest_check.proofs.Every.{Tested, tested_none, tested_more, tested_all}
+use Rattle.forest_check.proofs.Every.{tested_none, tested_more, tested_all}
 use Rattle.forest_check.proofs.walks_end.Goals as goal
 
 pub loop-i-init : goal.loop-i-init

@@ -1,14 +1,9 @@
 -- `forest_check::walks_end` meets its contract: a pass over the cells (proofs/Every.antt) that stops at a walk that does not end.
 use Prim.Native.Nat.{◌-◌}
-use borrow.Author.Tests.{not-true, not-false}
-use mathlib.Core.Path.{refl, sym, ◌∙◌}
 use mathlib.Core.Bool.{true}
-use native.Mathlib.Omega.{arith}
 use lib.ListN.{length}
-use Rattle.numbers.proofs.Flags.{struck, kept}
 use Rattle.forest_check.specs.Sound.{ends_from_of}
-use Rattle.forest_check.proofs.Ends.{ends_from_ends}
-use Rattle.forest_check.proofs.Every.{Tested, tested_none, tested_more, tested_all}
+use Rattle.forest_check.proofs.Every.{Tested}
 use Rattle.forest_check.proofs.walks_end.Given as goal
 
 abbrev pub invariant-loop-i : goal.invariant-loop-i

@@ -1,7 +1,6 @@
 use mathlib.Core.Path.{ap}
 use native.Mathlib.Omega.{arith}
-use borrow.Author.Rules.{rules}
-use Rattle.forest_scratch.proofs.Shorter.{Going, going_begin, going_more, going_end, falls, above_inside, next_inside}
+use Rattle.forest_scratch.proofs.Shorter.{going_begin, going_more, going_end, falls, above_inside, next_inside}
 use Rattle.forest_scratch.proofs.find.Goals as goal
 
 pub overflow_cast-next : goal.overflow_cast-next

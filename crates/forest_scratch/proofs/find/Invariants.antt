@@ -1,8 +1,5 @@
 -- `forest_scratch::find` meets its contract: the loop of proofs/Shorter.antt, in which the cell falls.
-use mathlib.Core.Path.{ap}
-use native.Mathlib.Omega.{arith}
-use borrow.Author.Rules.{rules}
-use Rattle.forest_scratch.proofs.Shorter.{Going, going_begin, going_more, going_end, falls, above_inside, next_inside}
+use Rattle.forest_scratch.proofs.Shorter.{Going}
 use Rattle.forest_scratch.proofs.find.Given as goal
 
 abbrev pub invariant-loop-next : goal.invariant-loop-next

@@ -1,7 +1,6 @@
 -- `forest_scratch::join` meets its contract: the two finds, and then the store where the roots differ.
 use Prim.Native.Nat.{◌<◌}
 use native.Mathlib.Omega.{arith}
-use borrow.Author.Rules.{rules}
 use Rattle.forest.specs.Arrays.{places}
 use Rattle.forest_scratch.proofs.Joined.{descends_found, roots_made, child_inside, same_made, apart_made}
 use Rattle.forest_scratch.proofs.join.Goals as goal

@@ -1,5 +1,4 @@
 -- `forest_unite::merge_labels` meets its contract: a store, where the roots are different.
-use Rattle.std.proofs.Common.{rules}
 use Rattle.forest_unite.proofs.merge_labels.Goals as goal
 
 pub returns-then-h : goal.returns-then-h

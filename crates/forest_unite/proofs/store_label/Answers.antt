@@ -1,5 +1,5 @@
 -- `forest_unite::store_label` meets its contract: beyond the slice `set` changes nothing.
-use Rattle.std.proofs.Common.{sym, rules}
+use Rattle.std.proofs.Common.{sym}
 use lib.Seq.{set_out}
 use Rattle.forest_unite.proofs.store_label.Goals as goal
 

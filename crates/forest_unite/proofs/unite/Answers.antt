@@ -1,6 +1,6 @@
 -- `forest_unite::unite` meets its contract: where the roots are one nothing is stored; otherwise each store leaves what the merge says that
 -- was read first.
-use Rattle.std.proofs.Common.{◌≡◌, sym, refl, ap, ◌∙◌, rules, eq-eqb}
+use Rattle.std.proofs.Common.{◌≡◌, sym, ap, ◌∙◌, eq-eqb}
 use Rattle.forest.specs.Arrays.{walk_of}
 use Rattle.forest_unite.specs.United.{merge_of_roots_of, merge_of_lem}
 use Rattle.forest_unite.proofs.unite.Goals as goal

@@ -1,5 +1,4 @@
 -- `forest_walk::label_of` meets its contract: beyond the slice the label is 0.
-use borrow.Author.Rules.{rules}
 use mathlib.Core.Path.{sym}
 use lib.ListN.{get_or-eq_default}
 use Rattle.forest_walk.proofs.label_of.Goals as goal

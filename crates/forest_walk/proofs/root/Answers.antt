@@ -1,8 +1,5 @@
-use Prim.Native.Nat.{◌-◌}
 use mathlib.Core.Path.{ap}
-use native.Mathlib.Omega.{arith}
-use Rattle.forest.specs.Arrays.{parent_in}
-use Rattle.forest.proofs.Climb.{Reached, begins, stays, goes, ended}
+use Rattle.forest.proofs.Climb.{begins, stays, goes, ended}
 use Rattle.forest_walk.proofs.root.Goals as goal
 
 pub loop-steps-init : goal.loop-steps-init

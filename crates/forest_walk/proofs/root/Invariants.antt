@@ -1,9 +1,7 @@
 -- `forest_walk::root` meets its contract: the root where the loop of a walk ends (`Climb` of forest), by the parents.
 use Prim.Native.Nat.{◌-◌}
-use mathlib.Core.Path.{ap}
-use native.Mathlib.Omega.{arith}
 use Rattle.forest.specs.Arrays.{parent_in}
-use Rattle.forest.proofs.Climb.{Reached, begins, stays, goes, ended}
+use Rattle.forest.proofs.Climb.{Reached}
 use Rattle.forest_walk.proofs.root.Given as goal
 
 abbrev pub invariant-loop-steps : goal.invariant-loop-steps

@@ -1,9 +1,6 @@
-use Prim.Native.Nat.{◌-◌, ◌<◌}
 use mathlib.Core.Path.{ap}
 use native.Mathlib.Omega.{arith}
-use lib.ListN.{length}
-use Rattle.forest.specs.Arrays.{parent_at_in, ParentsAreCells}
-use Rattle.forest.proofs.Climb.{Reached, begins, stays, goes, ended}
+use Rattle.forest.proofs.Climb.{begins, stays, goes, ended}
 use Rattle.forest.proofs.Ranged.{cut_inside}
 use Rattle.forest_walk.proofs.root_inside.Goals as goal
 

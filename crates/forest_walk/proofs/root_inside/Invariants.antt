@@ -1,12 +1,9 @@
 -- `forest_walk::root_inside` meets its contract: the root where the loop of a walk ends (`Climb` of forest), by the parents at the
 -- cut; and the walk stays among the cells, which is what each step asks.
 use Prim.Native.Nat.{◌-◌, ◌<◌}
-use mathlib.Core.Path.{ap}
-use native.Mathlib.Omega.{arith}
 use lib.ListN.{length}
 use Rattle.forest.specs.Arrays.{parent_at_in, ParentsAreCells}
-use Rattle.forest.proofs.Climb.{Reached, begins, stays, goes, ended}
-use Rattle.forest.proofs.Ranged.{cut_inside}
+use Rattle.forest.proofs.Climb.{Reached}
 use Rattle.forest_walk.proofs.root_inside.Given as goal
 
 abbrev pub invariant-loop-steps : goal.invariant-loop-steps

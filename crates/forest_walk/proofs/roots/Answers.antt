@@ -1,9 +1,5 @@
-use Prim.Native.Nat.{◌-◌}
 use mathlib.Core.Path.{refl}
-use native.Mathlib.Omega.{arith}
-use Rattle.graph.specs.Forest.{climb}
-use Rattle.forest.specs.Arrays.{places, parent_in}
-use Rattle.forest.proofs.Fill.{Filled, fill_none, fill_one, fill_each}
+use Rattle.forest.proofs.Fill.{fill_none, fill_one, fill_each}
 use Rattle.forest_walk.proofs.roots.Goals as goal
 
 pub loop-cell-init : goal.loop-cell-init

@@ -1,10 +1,8 @@
 -- `forest_walk::roots` meets its contract: entry c is filled with the root of c.
 use Prim.Native.Nat.{◌-◌}
-use mathlib.Core.Path.{refl}
-use native.Mathlib.Omega.{arith}
 use Rattle.graph.specs.Forest.{climb}
 use Rattle.forest.specs.Arrays.{places, parent_in}
-use Rattle.forest.proofs.Fill.{Filled, fill_none, fill_one, fill_each}
+use Rattle.forest.proofs.Fill.{Filled}
 use Rattle.forest_walk.proofs.roots.Given as goal
 
 abbrev pub invariant-loop-cell : goal.invariant-loop-cell

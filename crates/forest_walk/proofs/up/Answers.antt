@@ -1,5 +1,4 @@
 -- `forest_walk::up` meets its contract: within the slice the default of a read does not matter; beyond it, it is the cell.
-use borrow.Author.Rules.{rules}
 use mathlib.Core.Path.{sym}
 use lib.ListN.{get_or-eq_default}
 use Rattle.forest.proofs.Fill.{get_d_within}

@@ -1,6 +1,5 @@
 -- `forest_walk::up_inside` meets its contract: a root stays at any cut, and elsewhere the label decides the definition's case. Within the
 -- slice the default of a read does not matter.
-use borrow.Author.Rules.{rules}
 use Prim.Native.Nat.{ℕ, ◌<◌}
 use mathlib.Core.Path.{◌≡◌, refl, sym, ap, ◌∙◌}
 use mathlib.Core.Bool.{Bool, true, false, cond}

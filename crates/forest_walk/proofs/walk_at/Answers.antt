@@ -1,7 +1,4 @@
-use Prim.Native.Nat.{◌-◌}
-use native.Mathlib.Omega.{arith}
-use Rattle.forest.specs.Arrays.{parent_at_in}
-use Rattle.forest.proofs.Climb.{Reached, begins, stays, goes, ended}
+use Rattle.forest.proofs.Climb.{begins, stays, goes, ended}
 use Rattle.forest_walk.proofs.walk_at.Goals as goal
 
 pub loop-steps-init : goal.loop-steps-init

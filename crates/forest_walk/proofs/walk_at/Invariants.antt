@@ -1,8 +1,7 @@
 -- `forest_walk::walk_at` meets its contract: the loop of a walk (`Climb` of forest), by the parents at the cut.
 use Prim.Native.Nat.{◌-◌}
-use native.Mathlib.Omega.{arith}
 use Rattle.forest.specs.Arrays.{parent_at_in}
-use Rattle.forest.proofs.Climb.{Reached, begins, stays, goes, ended}
+use Rattle.forest.proofs.Climb.{Reached}
 use Rattle.forest_walk.proofs.walk_at.Given as goal
 
 abbrev pub invariant-loop-steps : goal.invariant-loop-steps

@@ -4,7 +4,7 @@ use mathlib.Core.Path.{◌≡◌, sym, ◌∙◌}
 use mathlib.Core.Bool.{true, false}
 use mathlib.Core.List.{List}
 use lib.ListN.{length}
-use borrow.Author.Tests.{le-leb, lt-leb, not-true, not-false}
+use borrow.Author.Tests.{le-leb, lt-leb}
 use Rattle.numbers.specs.Checks.{has}
 use Rattle.numbers.proofs.Checks.{passes, fails, last_passes, has_length}
 use Rattle.groups.proofs.groups_number.Goals as goal

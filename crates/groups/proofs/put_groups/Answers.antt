@@ -1,11 +1,9 @@
 -- `groups::put_groups` meets its contract: each of the three lists has a number of each cell, for which its output has room.
 use Prim.Native.Nat.{ℕ, ◌≤◌}
 use mathlib.Core.Path.{◌≡◌, ap, ◌∙◌}
-use mathlib.Core.List.{List, ◌++◌}
+use mathlib.Core.List.{List}
 use native.Mathlib.Omega.{arith}
-use borrow.Author.Rules.{rules}
-use lib.ListN.{length, drop}
-use lib.Seq.{take-length}
+use lib.ListN.{length}
 use Rattle.numbers.specs.Front.{at_front}
 use Rattle.forest.proofs.Fill.{length_each}
 use Rattle.slides.specs.declared.Clock.{Clock}

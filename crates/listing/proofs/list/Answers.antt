@@ -1,7 +1,6 @@
 -- `listing::list` meets its contract: the text stands at the front of an output that has room, and a shorter one is left alone.
 use mathlib.Core.Path.{refl, ◌∙◌}
 use native.Mathlib.Nat.{zero-add}
-use borrow.Author.Rules.{rules}
 use borrow.Author.Tests.{le-leb, lt-leb}
 use Rattle.listing.specs.Listing.{listed_if, listing_of}
 use Rattle.text.proofs.Writing.{written_front}

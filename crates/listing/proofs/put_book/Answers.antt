@@ -1,7 +1,6 @@
 -- `listing::put_book` meets its contract: three parts, one after the other, of at most 47, 19,456 and 11 bytes.
 use Prim.Native.Nat.{◌≤◌}
 use native.Mathlib.Omega.{arith}
-use borrow.Author.Rules.{rules}
 use Rattle.window.proofs.WindowLinks.{window_few}
 use Rattle.listing.specs.Listing.{window_text}
 use Rattle.listing.proofs.Lines.{groups_small, groups_lines, groups_links}

@@ -1,6 +1,5 @@
 -- `listing::put_group` meets its contract: a line of at most 19 bytes, or nothing.
 use native.Mathlib.Omega.{arith}
-use borrow.Author.Rules.{rules}
 use borrow.Author.Tests.{eq-eqb, ne_eqb, lt-ltb, le-ltb}
 use Rattle.listing.specs.Lines.{group_line_if}
 use Rattle.listing.proofs.Printed.{group_line_short}

@@ -1,10 +1,9 @@
-use Prim.Native.Nat.{◌+◌, ◌-◌, ◌*◌, ◌≤◌}
+use Prim.Native.Nat.{◌-◌}
 use native.Mathlib.Omega.{arith}
 use mathlib.Core.Path.{◌≡◌}
 use Rattle.forest.specs.Arrays.{count_from}
 use Rattle.book_state.specs.Arrays.{cells}
-use Rattle.text.specs.Output.{WrittenAt}
-use Rattle.listing.specs.Lines.{lines_of, line_from_arrays}
+use Rattle.listing.specs.Lines.{lines_of}
 use Rattle.listing.proofs.Lines.{lines_more, array_line_short}
 use Rattle.text.proofs.Writing.{written_none, written_then, written_length}
 use Rattle.listing.proofs.put_groups.Goals as goal

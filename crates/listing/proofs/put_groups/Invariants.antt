@@ -1,13 +1,8 @@
 -- `listing::put_groups` meets its contract: the lines of the cells, one after the other, each of at most 19 bytes.
 use Prim.Native.Nat.{◌+◌, ◌-◌, ◌*◌, ◌≤◌}
-use native.Mathlib.Omega.{arith}
-use mathlib.Core.Path.{◌≡◌}
 use Rattle.forest.specs.Arrays.{count_from}
-use Rattle.book_state.specs.Arrays.{cells}
 use Rattle.text.specs.Output.{WrittenAt}
 use Rattle.listing.specs.Lines.{lines_of, line_from_arrays}
-use Rattle.listing.proofs.Lines.{lines_more, array_line_short}
-use Rattle.text.proofs.Writing.{written_none, written_then, written_length}
 use Rattle.listing.proofs.put_groups.Given as goal
 
 abbrev pub invariant-loop-cell : goal.invariant-loop-cell

@@ -1,12 +1,7 @@
 -- `listing::put_listing` meets its contract: what reading, opening and playing give decides the text (proofs/Stages.antt).
-use mathlib.Core.Path.{refl}
-use borrow.Author.Rules.{rules}
 use lib.ListN.{replicate}
 use Rattle.forest.specs.Arrays.{places}
-use Rattle.file.specs.declared.Reading.{Reading}
-use Rattle.book_state.specs.declared.Book.{Book}
 use Rattle.book_state.specs.Order.{book_of}
-use Rattle.book.specs.Calls.{Answer}
 use Rattle.file_play.proofs.Playing.{read_size}
 use Rattle.listing.proofs.Stages.{reading_refused, Opened, opening_refused, PlayedInto, record_refused, book_listed, book_ready}
 use Rattle.listing.proofs.put_listing.Goals as goal

@@ -2,7 +2,6 @@
 use native.Mathlib.Omega.{arith}
 use Rattle.text.proofs.Decimal.{field_short}
 use Rattle.text.proofs.Writing.{written_then}
-use borrow.Author.Rules.{rules}
 use Rattle.listing.proofs.put_refused_file.Goals as goal
 
 pub put_fields-end-requires : goal.put_fields-end-requires

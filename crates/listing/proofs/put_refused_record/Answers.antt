@@ -1,7 +1,6 @@
 -- `listing::put_refused_record` meets its contract: the line is short.
 use native.Mathlib.Omega.{arith}
 use Rattle.listing.proofs.Printed.{refused_line_short}
-use borrow.Author.Rules.{rules}
 use Rattle.listing.proofs.put_refused_record.Goals as goal
 
 pub put_line-requires : goal.put_line-requires

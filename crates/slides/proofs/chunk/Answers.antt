@@ -1,5 +1,4 @@
 -- `slides::chunk` meets its contract: a window of 0 slides gives 0, as division by 0 does in the definition.
-use borrow.Author.Rules.{rules}
 use native.Mathlib.Nat.{div-zero}
 use Rattle.slides.proofs.chunk.Goals as goal
 

@@ -1,5 +1,4 @@
 -- `slides::counter_at` meets its contract: the total's own turns come off first, and change nothing of where the counter stands.
-use borrow.Author.Rules.{rules}
 use native.Mathlib.Nat.{add-mod-mod}
 use Rattle.slides.specs.Counter.{tick_limit, counter_at_of}
 use Rattle.slides.proofs.counter_at.Goals as goal

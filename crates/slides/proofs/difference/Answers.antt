@@ -1,10 +1,8 @@
 -- `slides::difference` meets its contract: the time is below a turn, so that its own turns come off to nothing.
-use borrow.Author.Rules.{rules}
-use mathlib.Core.Path.{◌≡◌, sym, ap, ◌∙◌}
-use Prim.Native.Nat.{ℕ, ◌+◌, ◌-◌, ◌%◌}
+use mathlib.Core.Path.{sym, ap, ◌∙◌}
+use Prim.Native.Nat.{◌+◌, ◌-◌, ◌%◌}
 use native.Mathlib.Nat.{mod-eq_of_lt}
 use Rattle.slides.specs.Counter.{tick_limit, ahead}
-use Rattle.slides.specs.Clock.{time_of}
 use Rattle.slides.proofs.Counter.{counter_below}
 use Rattle.slides.proofs.difference.Goals as goal
 

@@ -1,5 +1,4 @@
 -- `slides::not_before` meets its contract: each return settles the definition's two tests. The second is asked without a sum, which might not fit.
-use borrow.Author.Rules.{rules}
 use mathlib.Core.Path.{◌≡◌, sym, ◌∙◌}
 use mathlib.Core.Bool.{false}
 use Prim.Native.Nat.{ℕ, ◌+◌, ◌-◌, ◌≤◌, ◌<◌}

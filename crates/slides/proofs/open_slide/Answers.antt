@@ -1,5 +1,4 @@
 -- `slides::open_slide` meets its contract: a slide of 0 ticks gives 0, as the definition's division by 0 does.
-use borrow.Author.Rules.{rules}
 use mathlib.Core.Path.{refl}
 use native.Mathlib.Nat.{div-zero}
 use Rattle.slides.specs.Clock.{open_slide_of}

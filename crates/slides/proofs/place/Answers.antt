@@ -1,5 +1,4 @@
 -- `slides::place` meets its contract: the rest of a division by n is below n, which is a byte.
-use borrow.Author.Rules.{rules}
 use borrow.Author.Tests.{eq-eqb, ne_eqb}
 use native.Mathlib.Nat.{mod-lt, pos_of_ne-zero, lt_of_lt_of_le}
 use native.Mathlib.Omega.{arith}

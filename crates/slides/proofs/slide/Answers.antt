@@ -1,7 +1,4 @@
 -- `slides::slide` meets its contract: a slide of 0 ticks gives 0, as the definition's division by 0 does.
-use borrow.Author.Rules.{rules}
-use mathlib.Core.Path.{ap}
-use Prim.Native.Nat.{◌/◌}
 use native.Mathlib.Nat.{div-zero}
 use Rattle.slides.specs.Clock.{slide_of}
 use Rattle.slides.proofs.slide.Goals as goal

@@ -1,9 +1,8 @@
 -- `slides::ticks` meets its contract: some total reaches a slide exactly when it is not after the slide of the largest total (Slides, `begins`).
-use borrow.Author.Rules.{rules}
-use Prim.Native.Nat.{ℕ, ◌+◌, ◌-◌, ◌*◌, ◌≤◌, ◌<◌}
+use Prim.Native.Nat.{ℕ, ◌+◌, ◌-◌, ◌≤◌, ◌<◌}
 use mathlib.Core.Path.{◌≡◌, ap, ◌∙◌}
-use mathlib.Core.Bool.{true, false}
-use borrow.Author.Tests.{lt-ltb, le-ltb, le-leb, lt-leb}
+use mathlib.Core.Bool.{true}
+use borrow.Author.Tests.{lt-ltb, le-leb, lt-leb}
 use native.Mathlib.Nat.{pos_of_ne-zero}
 use native.Mathlib.Omega.{arith}
 use Rattle.slides.specs.Clock.{total_most, first_total_of, last_total_of, ticks_if, ticks_of}

@@ -1,5 +1,4 @@
 -- `slides::ticks_between` meets its contract: the two ticks are those at which the counter stands.
-use borrow.Author.Rules.{rules}
 use Rattle.slides.specs.Clock.{ticks_if}
 use Rattle.slides.proofs.ticks_between.Goals as goal
 

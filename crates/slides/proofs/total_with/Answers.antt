@@ -1,11 +1,8 @@
 -- `slides::total_with` meets its contract: either branch settles whether the tick is taken, and then there is room for its difference.
-use borrow.Author.Rules.{rules}
-use mathlib.Core.Path.{◌≡◌, sym, ap, ◌∙◌}
+use mathlib.Core.Path.{◌≡◌, sym, ◌∙◌}
 use mathlib.Core.Bool.{true}
-use Prim.Native.Nat.{ℕ, ◌+◌}
 use native.Mathlib.Nat.{add-zero}
 use native.Mathlib.Omega.{arith}
-use borrow.Author.Tests.{not-true, not-false}
 use Rattle.slides.specs.Clock.{not_before_of, total_with_of}
 use Rattle.slides.proofs.Slides.{not_before_lem}
 use Rattle.slides.proofs.total_with.Goals as goal

@@ -1,5 +1,4 @@
 -- `slides_step::moved` meets its contract: the total is the one that the tick makes.
-use borrow.Author.Rules.{rules}
 use Rattle.slides.specs.Clock.{moved_to}
 use Rattle.slides_step.proofs.moved.Goals as goal
 

@@ -1,6 +1,5 @@
 -- `window::gather` meets its contract: the newest slides, as many as the window has, are all of them.
 use native.Mathlib.Nat.{le_refl}
-use borrow.Author.Rules.{rules}
 use Rattle.window.specs.Window.{window_links}
 use Rattle.window.proofs.gather.Goals as goal
 

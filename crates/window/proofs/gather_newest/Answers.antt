@@ -1,8 +1,7 @@
 use Prim.Native.Nat.{◌-◌}
-use borrow.Author.Rules.{rules}
 use native.Mathlib.Omega.{arith}
-use Rattle.window.proofs.Putting.{Putting, putting_none, putting_one, putting_all}
-use Rattle.window.proofs.WindowLinks.{slides_from, slides_all, slide_parts, slide_few}
+use Rattle.window.proofs.Putting.{putting_none, putting_one, putting_all}
+use Rattle.window.proofs.WindowLinks.{slides_all, slide_parts, slide_few}
 use Rattle.window.proofs.gather_newest.Goals as goal
 
 pub loop-age-init : goal.loop-age-init

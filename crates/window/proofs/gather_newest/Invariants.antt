@@ -1,10 +1,8 @@
 -- `window::gather_newest` meets its contract: the links of the newest `age` slides are put (proofs/Putting.antt), up to as many as are
 -- asked for. The window has no more than 16 slides, each with at most 256 links.
 use Prim.Native.Nat.{◌-◌}
-use borrow.Author.Rules.{rules}
-use native.Mathlib.Omega.{arith}
-use Rattle.window.proofs.Putting.{Putting, putting_none, putting_one, putting_all}
-use Rattle.window.proofs.WindowLinks.{slides_from, slides_all, slide_parts, slide_few}
+use Rattle.window.proofs.Putting.{Putting}
+use Rattle.window.proofs.WindowLinks.{slides_from}
 use Rattle.window.proofs.gather_newest.Given as goal
 
 abbrev pub invariant-loop-age : goal.invariant-loop-age

@@ -1,9 +1,8 @@
 use Prim.Native.Nat.{◌-◌}
 use mathlib.Core.Path.{refl}
-use native.Mathlib.Omega.{arith}
 use Rattle.book_state.specs.Log.{links_at}
 use Rattle.book_state.proofs.LogLinks.{links_more}
-use Rattle.window_ends.proofs.Joining.{Joining, joining_none, joining_more, joining_all}
+use Rattle.window_ends.proofs.Joining.{joining_none, joining_more, joining_all}
 use Rattle.window_ends.proofs.join_links.Goals as goal
 
 pub loop-i-init : goal.loop-i-init

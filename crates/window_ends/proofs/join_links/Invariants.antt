@@ -1,10 +1,7 @@
 -- `window_ends::join_links` meets its contract: the pairs before i are joined, and their cells marked (proofs/Joining.antt).
 use Prim.Native.Nat.{◌-◌}
-use mathlib.Core.Path.{refl}
-use native.Mathlib.Omega.{arith}
 use Rattle.book_state.specs.Log.{links_at}
-use Rattle.book_state.proofs.LogLinks.{links_more}
-use Rattle.window_ends.proofs.Joining.{Joining, joining_none, joining_more, joining_all}
+use Rattle.window_ends.proofs.Joining.{Joining}
 use Rattle.window_ends.proofs.join_links.Given as goal
 
 abbrev pub invariant-loop-i : goal.invariant-loop-i

@@ -1,14 +1,13 @@
 use Prim.Native.Nat.{◌-◌, ◌≤◌, ◌<◌}
 use mathlib.Core.Path.{◌≡◌, refl}
 use native.Mathlib.Omega.{arith}
-use borrow.Author.Rules.{rules}
 use lib.ListN.{get_or}
 use Rattle.slides.specs.Clock.{open_slide_of}
 use Rattle.slides.proofs.Slides.{place_below}
 use Rattle.forest_scratch.proofs.Standing.{stands_fresh}
 use Rattle.window.specs.Window.{window_slides_of, links_from_age, window_links}
-use Rattle.window.proofs.WindowLinks.{newest_links, newest_more}
-use Rattle.window_ends.proofs.Joining.{Joining, joining_none, joining_more, joining_all}
+use Rattle.window.proofs.WindowLinks.{newest_more}
+use Rattle.window_ends.proofs.Joining.{joining_none, joining_more, joining_all}
 use Rattle.window_ends.proofs.WindowEnds.{ends_are}
 use Rattle.window_ends.proofs.of_window.Goals as goal
 use Rattle.window_ends.proofs.of_window.Goals.{After-spot-spot, After-window_slides-slides, In-loop-age}

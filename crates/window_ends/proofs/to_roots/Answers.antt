@@ -3,7 +3,7 @@ use native.Mathlib.Omega.{arith}
 use lib.ListN.{get_or}
 use Rattle.forest.specs.Arrays.{places}
 use Rattle.forest_scratch.proofs.Shorter.{above_inside}
-use Rattle.window_ends.proofs.Rooting.{Rooting, rooting_none, read, rooting_one, rooting_all}
+use Rattle.window_ends.proofs.Rooting.{rooting_none, read, rooting_one, rooting_all}
 use Rattle.window_ends.proofs.to_roots.Goals as goal
 use Rattle.window_ends.proofs.to_roots.Goals.{In-loop-cell}
 

@@ -1,8 +1,5 @@
 use Prim.Native.Nat.{◌-◌}
-use borrow.Author.Rules.{rules}
-use native.Mathlib.Omega.{arith}
-use Rattle.book_state.specs.Arrays.{arrays_of}
-use Rattle.window_forest.proofs.Growing.{Growing, growing_none, growing_one, growing_all}
+use Rattle.window_forest.proofs.Growing.{growing_none, growing_one, growing_all}
 use Rattle.window_forest.proofs.grow.Goals as goal
 
 pub loop-i-init : goal.loop-i-init

@@ -1,9 +1,7 @@
 -- `window_forest::grow` meets its contract: the first i links are united (proofs/Growing.antt).
 use Prim.Native.Nat.{◌-◌}
-use borrow.Author.Rules.{rules}
-use native.Mathlib.Omega.{arith}
 use Rattle.book_state.specs.Arrays.{arrays_of}
-use Rattle.window_forest.proofs.Growing.{Growing, growing_none, growing_one, growing_all}
+use Rattle.window_forest.proofs.Growing.{Growing}
 use Rattle.window_forest.proofs.grow.Given as goal
 
 abbrev pub invariant-loop-i : goal.invariant-loop-i

@@ -2,10 +2,8 @@
 -- tallies tell what its tree gives, and its tree is its group.
 use Prim.Native.Nat.{◌≤◌}
 use mathlib.Core.Path.{◌≡◌, ◌∙◌, ap}
-use mathlib.Core.List.{List}
 use native.Mathlib.Omega.{arith}
 use lib.ListN.{length}
-use Rattle.graph.specs.Forest.{Labelled}
 use Rattle.window.specs.Window.{window_links}
 use Rattle.window_forest.specs.LinkForest.{grown_from}
 use Rattle.window.proofs.Gathered.{put_many, put_read}
@@ -13,7 +11,6 @@ use Rattle.window.proofs.WindowLinks.{window_few}
 use Rattle.window_groups.specs.Trees.{Roots}
 use Rattle.window_groups.proofs.AtRoots.{Grown, AtRoots, roots_below, least_positive}
 use Rattle.window_groups.proofs.WindowTrees.{forest_grown, forest_groups}
-use borrow.Author.Rules.{rules}
 use Rattle.window_groups.proofs.of_window.Goals as goal
 use Rattle.window_groups.proofs.of_window.Goals.{After-gather-count, After-grow-forest, After-roots-root, After-tally-tallies}
 

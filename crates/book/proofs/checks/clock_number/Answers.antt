@@ -1,8 +1,7 @@
 -- `book::checks::clock_number` meets its contract: each test is one check of the definition's.
 use mathlib.Core.Path.{◌≡◌, sym, ◌∙◌}
 use mathlib.Core.Bool.{true}
-use borrow.Author.Rules.{rules}
-use borrow.Author.Tests.{le-leb, lt-leb, not-true, not-false}
+use borrow.Author.Tests.{le-leb, lt-leb}
 use Rattle.numbers.specs.Checks.{has}
 use Rattle.book_state.specs.Numbers.{log_places}
 use Rattle.numbers.proofs.Checks.{passes, fails, last_passes, has_length}

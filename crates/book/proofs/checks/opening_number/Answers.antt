@@ -1,7 +1,6 @@
 -- `book::checks::opening_number` meets its contract: each test is one check of the definition's.
 use mathlib.Core.Path.{◌≡◌, sym, ◌∙◌}
 use mathlib.Core.List.{[]}
-use borrow.Author.Rules.{rules}
 use borrow.Author.Tests.{le-leb, lt-leb}
 use Rattle.settings.specs.Settings.{taken_number}
 use Rattle.book_state.specs.Numbers.{log_places}

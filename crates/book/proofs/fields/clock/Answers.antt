@@ -1,7 +1,5 @@
 -- `book::fields::clock` meets its contract: a refusal changes nothing, and else the time moves.
 use mathlib.Core.Path.{◌≡◌, refl, sym, ap, ◌∙◌}
-use borrow.Author.Rules.{rules}
-use Rattle.book_state.specs.declared.Book.{Book}
 use Rattle.book_state.specs.Order.{book_of}
 use Rattle.book.specs.Calls.{clock_number_in, clock_number_of, clock_by_number, clock_of}
 use Rattle.book.proofs.Taken.{refused, clock_readable}

@@ -1,8 +1,6 @@
 -- `book::fields::opening` meets its contract: a refusal changes nothing, and else the log is cleared and the book is fresh.
 use mathlib.Core.Path.{◌≡◌, refl, sym, ap, ◌∙◌, ap₂}
 use native.Mathlib.Omega.{arith}
-use borrow.Author.Rules.{rules}
-use Rattle.book_state.specs.declared.Book.{Book}
 use Rattle.book_state.specs.Order.{book_of}
 use Rattle.book_time.specs.Time.{emptied}
 use Rattle.book.specs.Calls.{opening_number_of, opening_by_number, opening_of}

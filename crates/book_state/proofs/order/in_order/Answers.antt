@@ -1,8 +1,6 @@
 -- `book_state::order::in_order` meets its contract: each test is one of the definition's.
 use mathlib.Core.Path.{◌≡◌, sym, ◌∙◌}
 use mathlib.Core.Bool.{true, false}
-use borrow.Author.Rules.{rules}
-use borrow.Author.Tests.{not-true, not-false}
 use Rattle.settings.specs.Settings.{held_in_range}
 use Rattle.slides.specs.Clock.{clock_in_range}
 use Rattle.forest_check.specs.Sound.{every, within, sound_of}

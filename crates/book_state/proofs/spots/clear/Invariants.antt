@@ -1,10 +1,8 @@
 -- `book_state::spots::clear` meets its contract: the places before i are 0, and the others as they were.
 use Prim.Native.Nat.{◌-◌, ◌≤◌}
-use mathlib.Core.Path.{◌≡◌, refl}
+use mathlib.Core.Path.{◌≡◌}
 use mathlib.Core.List.{◌++◌}
-use native.Mathlib.Omega.{arith}
-use borrow.Author.Fill.{fill_none, fill_more}
-use lib.ListN.{length, drop, replicate, length-set}
+use lib.ListN.{length, drop, replicate}
 use Rattle.book_state.proofs.spots.clear.Given as goal
 
 abbrev pub invariant-loop-i : goal.invariant-loop-i

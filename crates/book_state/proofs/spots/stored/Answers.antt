@@ -1,7 +1,6 @@
 -- `book_state::spots::stored` meets its contract: the count at the slide's spot where the slide is of the open chunk, and else 0.
 use Prim.Native.Nat.{ℕ}
 use mathlib.Core.Path.{◌≡◌, sym, ◌∙◌, ap}
-use borrow.Author.Rules.{rules}
 use borrow.Author.Tests.{eq-eqb, ne_eqb}
 use mathlib.Core.Bool.{true}
 use lib.Dec.{eqb}

@@ -1,5 +1,5 @@
 -- `forest_unite::roots::size_of` meets its contract: within the slice the default of a read does not matter; beyond it, it is 1.
-use Rattle.std.proofs.Common.{sym, rules}
+use Rattle.std.proofs.Common.{sym}
 use lib.ListN.{get_or-eq_default}
 use Rattle.forest.proofs.Fill.{get_d_within}
 use Rattle.forest_unite.proofs.roots.size_of.Goals as goal

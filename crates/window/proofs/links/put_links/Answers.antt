@@ -1,7 +1,6 @@
 use Prim.Native.Nat.{◌-◌}
-use native.Mathlib.Omega.{arith}
-use Rattle.book_state.proofs.Passes.{pairs_from, pairs_all, pair_parts, pair_few}
-use Rattle.window.proofs.Putting.{Putting, putting_none, putting_one, putting_all}
+use Rattle.book_state.proofs.Passes.{pairs_all, pair_parts, pair_few}
+use Rattle.window.proofs.Putting.{putting_none, putting_one, putting_all}
 use Rattle.window.proofs.links.put_links.Goals as goal
 
 pub loop-i-init : goal.loop-i-init

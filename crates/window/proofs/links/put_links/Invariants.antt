@@ -1,8 +1,7 @@
 -- `window::links::put_links` meets its contract: the first i pairs are put (proofs/Putting.antt).
 use Prim.Native.Nat.{◌-◌}
-use native.Mathlib.Omega.{arith}
-use Rattle.book_state.proofs.Passes.{pairs_from, pairs_all, pair_parts, pair_few}
-use Rattle.window.proofs.Putting.{Putting, putting_none, putting_one, putting_all}
+use Rattle.book_state.proofs.Passes.{pairs_from}
+use Rattle.window.proofs.Putting.{Putting}
 use Rattle.window.proofs.links.put_links.Given as goal
 
 abbrev pub invariant-loop-i : goal.invariant-loop-i

@@ -1,7 +1,5 @@
 -- `window::links::put_pair` meets its contract: a pair of cells is one link, and any other pair is none.
 use mathlib.Core.Path.{sym, ◌∙◌}
-use borrow.Author.Rules.{rules}
-use borrow.Author.Tests.{not-true, not-false}
 use Rattle.window.proofs.Putting.{put_none, put_one}
 use Rattle.window.proofs.links.put_pair.Goals as goal
 

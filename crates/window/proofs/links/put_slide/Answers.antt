@@ -1,6 +1,5 @@
 -- `window::links::put_slide` meets its contract: the slide's spot is one of the 32, and it holds at most 256 links.
 use Prim.Native.Nat.{◌≤◌, ◌<◌}
-use borrow.Author.Rules.{rules}
 use native.Mathlib.Omega.{arith}
 use lib.ListN.{get_or}
 use Rattle.slides.proofs.Slides.{place_below}

@@ -5,7 +5,7 @@ use native.Mathlib.Omega.{arith}
 use lib.ListN.{length}
 use Rattle.forest.proofs.Fill.{Filled, fill_one, fill_each}
 use Rattle.book_state.specs.Arrays.{cells}
-use Rattle.window_groups.specs.Trees.{root_in, at_root, groups_at}
+use Rattle.window_groups.specs.Trees.{root_in, groups_at}
 use Rattle.window_groups.proofs.trees.at_roots.Goals as goal
 use Rattle.window_groups.proofs.trees.at_roots.Goals.{In-loop-cell}
 

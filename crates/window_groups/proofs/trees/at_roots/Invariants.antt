@@ -1,12 +1,8 @@
 -- `window_groups::trees::at_roots` meets its contract: three arrays are filled from the front, entry c with what stands at c's root.
-use Prim.Native.Nat.{ℕ, ◌-◌, ◌<◌}
-use mathlib.Core.Path.{◌≡◌, refl}
-use mathlib.Core.List.{List}
-use native.Mathlib.Omega.{arith}
-use lib.ListN.{length}
-use Rattle.forest.proofs.Fill.{Filled, fill_one, fill_each}
+use Prim.Native.Nat.{◌-◌}
+use Rattle.forest.proofs.Fill.{Filled}
 use Rattle.book_state.specs.Arrays.{cells}
-use Rattle.window_groups.specs.Trees.{root_in, at_root, groups_at}
+use Rattle.window_groups.specs.Trees.{at_root}
 use Rattle.window_groups.proofs.trees.at_roots.Given as goal
 
 abbrev pub invariant-loop-cell : goal.invariant-loop-cell

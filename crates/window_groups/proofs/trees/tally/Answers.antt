@@ -1,16 +1,14 @@
-use Prim.Native.Nat.{ℕ, suc, ◌-◌, ◌≤◌, ◌<◌}
+use Prim.Native.Nat.{suc, ◌-◌, ◌≤◌, ◌<◌}
 use mathlib.Core.Path.{◌≡◌, refl, ap, ap₂, ◌∙◌}
-use mathlib.Core.List.{List}
 use native.Mathlib.Omega.{arith}
 use native.Mathlib.Numerals.{add-one}
-use borrow.Author.Rules.{rules}
 use lib.ListN.{length, get_or}
-use Rattle.forest.specs.Arrays.{parent_in, label_in}
+use Rattle.forest.specs.Arrays.{label_in}
 use Rattle.forest.proofs.Fill.{get_d_within}
 use Rattle.book_state.specs.Arrays.{cells}
 use Rattle.window_groups.specs.Groups.{smallest}
 use Rattle.window_groups.specs.Trees.{root_in, lower, least_label, tallies_of}
-use Rattle.window_groups.proofs.Tally.{tree_from, Tallied, tree_short, tallied_none, tallied_one, tallied_all}
+use Rattle.window_groups.proofs.Tally.{tree_from, tree_short, tallied_none, tallied_one, tallied_all}
 use Rattle.window_groups.proofs.trees.tally.Goals as goal
 use Rattle.window_groups.proofs.trees.tally.Goals.{In-loop-cell}
 

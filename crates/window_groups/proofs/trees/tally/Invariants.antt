@@ -1,18 +1,11 @@
 -- `window_groups::trees::tally` meets its contract: what is stored of a tree last is its smallest cell, each cell adds 1 to its tree's
 -- number, and its step lowers the tree's label, if its own is smaller.
-use Prim.Native.Nat.{ℕ, suc, ◌-◌, ◌≤◌, ◌<◌}
-use mathlib.Core.Path.{◌≡◌, refl, ap, ap₂, ◌∙◌}
-use mathlib.Core.List.{List}
-use native.Mathlib.Omega.{arith}
-use native.Mathlib.Numerals.{add-one}
-use borrow.Author.Rules.{rules}
-use lib.ListN.{length, get_or}
+use Prim.Native.Nat.{◌-◌}
+use lib.ListN.{length}
 use Rattle.forest.specs.Arrays.{parent_in, label_in}
-use Rattle.forest.proofs.Fill.{get_d_within}
-use Rattle.book_state.specs.Arrays.{cells}
 use Rattle.window_groups.specs.Groups.{smallest}
-use Rattle.window_groups.specs.Trees.{root_in, lower, least_label, tallies_of}
-use Rattle.window_groups.proofs.Tally.{tree_from, Tallied, tree_short, tallied_none, tallied_one, tallied_all}
+use Rattle.window_groups.specs.Trees.{root_in, least_label}
+use Rattle.window_groups.proofs.Tally.{Tallied}
 use Rattle.window_groups.proofs.trees.tally.Given as goal
 
 abbrev pub invariant-loop-cell : goal.invariant-loop-cell
