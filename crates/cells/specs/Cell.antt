@@ -1,8 +1,8 @@
 -- Cells and mounting (RULES 1): rings of sectors, and the lorry's number of a unit's cell.
 --
 -- The mirror rule is `mirror_sector`, and nothing else says it. It and `mirror_over` are shut: only the modules below this one
--- open them. Everyone else goes by the laws (Cell/Laws). All but the examples, those on the axis, what sector 0 and the others
--- become (`rule_zero`, `rule_other`, for Touching/Laws) and the number worked out (`mirror_number`, for the code) hold of any rule
+-- open them. Everyone else goes by the laws (Cell/Laws, and proofs/Mirroring). All but the examples, those on the axis, what sector 0 and the others
+-- become (`rule_zero`, `rule_other`, for proofs/Touching) and the number worked out (`mirror_number`, for the code) hold of any rule
 -- that keeps to the sectors and, taken twice, changes nothing. All is said over the number of sectors of a ring; the unit of RULES
 -- 1.1, of 64, comes last.
 pub mod Laws
@@ -59,6 +59,6 @@ mirror = mirror_over sectors
 abbrev pub lorry_cell_of : (fitting : Fitting) (cell : Cell) → Cell
 lorry_cell_of fitting = lorry_cell_over sectors fitting.mounting
 
--- the unit's number of a lorry's cell: as mirroring twice changes nothing, the same way leads back (Laws, `there_and_back`)
+-- the unit's number of a lorry's cell: as mirroring twice changes nothing, the same way leads back (proofs/Mirroring, `there_and_back`)
 abbrev pub unit_cell_of : (fitting : Fitting) (cell : Cell) → Cell
 unit_cell_of = lorry_cell_of

@@ -1,7 +1,7 @@
 -- When two cells touch (RULES 1.8): they are different, their rings differ by at most 1, and so do their sectors, round the circle. Rings
 -- end with the first and the last; sectors go round, so that the last and the first are next to each other.
 --
--- It is said over the number of sectors of a ring, as everything in Cell. Callers go by the laws (Touching/Laws), and a computed case
+-- It is said over the number of sectors of a ring, as everything in Cell. Callers go by the laws (Touching/Laws, proofs/Touching), and a computed case
 -- opens the definition.
 pub mod Laws
 use Rattle.std.specs.Prelude.{ℕ, ◌+◌, ◌-◌, Bool, not, ◌&&◌, ◌||◌, eqb, leb}

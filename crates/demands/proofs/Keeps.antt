@@ -12,7 +12,7 @@ use lib.ListN.{set, length-set}
 use Rattle.cells.specs.declared.Fitting.{Fitting}
 use Rattle.settings.specs.declared.Settings.{Settings}
 use Rattle.cells.specs.Cell.{sectors, lorry_cell_of}
-use Rattle.cells.specs.Cell.Laws.{lorry_is_cell}
+use Rattle.cells.proofs.Mirroring.{lorry_is_cell}
 use Rattle.slides.specs.Clock.{not_before_of}
 use Rattle.slides.proofs.Slides.{moved_slide}
 use Rattle.book_state.specs.Arrays.{cells}

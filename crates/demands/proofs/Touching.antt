@@ -13,7 +13,8 @@ use Rattle.graph.proofs.Forests.{nothing_linked}
 use Rattle.settings.specs.declared.Settings.{Settings}
 use Rattle.cells.specs.Cell.{sectors, lorry_cell_of}
 use Rattle.cells.specs.Touching.{touch}
-use Rattle.cells.specs.Touching.Laws.{touch_symmetric, touch_itself, lorry_touch}
+use Rattle.cells.specs.Touching.Laws.{touch_symmetric, touch_itself}
+use Rattle.cells.proofs.Touching.{lorry_touch}
 use Rattle.cells.specs.declared.Fitting.{Fitting}
 use Rattle.slides.specs.Clock.{not_before_of, slide_of}
 use Rattle.book_state.specs.Numbers.{are_cells_of}
