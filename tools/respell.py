@@ -2,7 +2,7 @@
 """Spells the repository's own antt names as today's Rattle does: words in snake case.
 
 usage: tools/respell.py          once, at the top, right after /opt/rattle/port/port.py
-       tools/respell.py --pages  the same names in README, docs/, CHANGELOG and the comments of tools, in backquotes alone
+       tools/respell.py --pages  the same names in README, docs/ and CHANGELOG, in backquotes alone; docs/PORT.md has old names
 
 A name that a file of crates/*/specs or crates/*/proofs declares, and that begins with a small letter, gets underscores for its
 dashes and for the humps of camel case; so does each variable in camel case. Types, facts and modules keep their capitals, and so do names of Rust, strings, inputs,
@@ -130,7 +130,7 @@ def main(argv):
     if argv == ["--pages"]:
         with open(kept, encoding="utf-8") as f:
             new = json.load(f)
-        pages = ["README.md", "CHANGELOG.md", "rust/README.md", "samples/README.md", *(os.path.join(d, f) for d, _, fs in os.walk("docs") for f in fs if f.endswith(".md"))]
+        pages = ["README.md", "CHANGELOG.md", "rust/README.md", "samples/README.md", *(os.path.join(d, f) for d, _, fs in os.walk("docs") for f in fs if f.endswith(".md") and f != "PORT.md")]
         for p in pages:
             if os.path.exists(p):
                 t = read(p)
