@@ -5,6 +5,7 @@ use mathlib.Core.Path.{◌≡◌, ◌∙◌, sym, ap, subst}
 use mathlib.Core.Bool.{false}
 use native.Mathlib.Numerals.{add-one}
 use lib.Dec.{eqb, eqb-suc-suc}
+use Rattle.std.proofs.Common.{arith}
 use Rattle.cells.specs.Cell.{sectors, ring_of, sector_of}
 use Rattle.cells.specs.Touching.{difference, touch}
 use Rattle.cells.specs.Touching.Laws.{touch_itself, touch_far, touch_near, touch_round}
@@ -23,7 +24,7 @@ sectors_are c = rw (c.difference-apart.ensures, c.sector-2.ensures, c.sector.ens
 
 -- where the rings are near
 different : (c : Else-difference-gt1) → (let args = c.args in args.one ≡ args.other → ⊥)
-different c = c.if-one-other.false
+different c = omega arith
 
 rings_near : (c : Else-difference-gt1) → (let args = c.args in difference (ring_of sectors args.one) (ring_of sectors args.other) ≤ 1)
 rings_near c = rw (← (rings_are c.before)) c.if-difference-gt1.false
@@ -37,7 +38,7 @@ returns-then-one-other c = itself c.if-one-other.true
 
 pub returns-then-difference-gt1 : goal.returns-then-difference-gt1
 returns-then-difference-gt1 c =
-    sym (touch_far sectors _ _ c.if-one-other.false (rw (← (rings_are (goal.at.returns-then-difference-gt1 c).After-difference)) c.if-difference-gt1.true))
+    sym (touch_far sectors c.args.one c.args.other (omega arith) (rw (← (rings_are (goal.at.returns-then-difference-gt1 c).After-difference)) c.if-difference-gt1.true))
 
 pub returns-then-apart-le1 : goal.returns-then-apart-le1
 returns-then-apart-le1 c =
