@@ -1,20 +1,19 @@
 #!/usr/bin/env python3
 """Spells the repository's own antt names as today's Rattle does: words in snake case.
 
-usage: tools/respell.py          once, at the top, right after /opt/rattle/port/port.py
-       tools/respell.py --pages  the same names in README, docs/ and CHANGELOG, in backquotes alone; docs/PORT.md has old names
+usage: tools/respell.py          once, at the top, right after the kit's port script
+       tools/respell.py --list   what it would spell anew, and how
 
 A name that a file of crates/*/specs or crates/*/proofs declares, and that begins with a small letter, gets underscores for its
-dashes and for the humps of camel case; so does each variable in camel case. Types, facts and modules keep their capitals, and so do names of Rust, strings, inputs,
-outputs and file names. A name that a file imports from a library stays in that file, and so do the labels of goals, which Rattle
+dashes and for the humps of camel case; so does each variable in camel case. Types, facts and modules keep their capitals; names of Rust,
+strings, inputs, outputs and file names stay. A name that a file imports from a library stays in that file, and so do the labels of goals, which Rattle
 makes (`returns-2`, `loop-test`). Comments change inside backquotes.
 
 Where two names would fall together, in any file, the definition in camel case gets the plain name; a lemma or a field with
-dashes gets `_lem`, and a definition that would have the name of a function or variable of Rust gets `_of`. `--list` prints the names.
+dashes gets `_lem`, and a definition that would have the name of a function or variable of Rust gets `_of`.
 """
 
 import collections
-import json
 import os
 import re
 import subprocess
@@ -100,7 +99,7 @@ def table():
 
     for n in list(new):
         to = new[n]
-        if "-" in n and meets(n, to) and any("-" not in m for m in takes[to] | {to} if m != n or to in declared or True):
+        if "-" in n and meets(n, to):
             takes[to].discard(n)
             new[n] = to + "_lem"
             takes[new[n]].add(n)
@@ -113,7 +112,7 @@ def table():
     for n in new:
         if meets(n, new[n]):
             print(f"respell: {n} and {takes[new[n]]} meet as {new[n]}", file=sys.stderr)
-    return new, held, labels
+    return new, held
 
 
 def respell(text, new, leave):
@@ -126,20 +125,7 @@ def in_quotes(text, new, leave):
 
 def main(argv):
     os.chdir(subprocess.run(["git", "rev-parse", "--show-toplevel"], capture_output=True, text=True, check=True).stdout.strip())
-    kept = os.path.join("tools", "respell.json")
-    if argv == ["--pages"]:
-        with open(kept, encoding="utf-8") as f:
-            new = json.load(f)
-        pages = ["README.md", "CHANGELOG.md", "rust/README.md", "samples/README.md", *(os.path.join(d, f) for d, _, fs in os.walk("docs") for f in fs if f.endswith(".md") and f != "PORT.md")]
-        for p in pages:
-            if os.path.exists(p):
-                t = read(p)
-                u = in_quotes(t, new, set())
-                if u != t:
-                    with open(p, "w", encoding="utf-8") as f:
-                        f.write(u)
-        return
-    new, held, labels = table()
+    new, held = table()
     if argv == ["--list"]:
         for n in sorted(new):
             print(n, new[n])
@@ -153,9 +139,6 @@ def main(argv):
         if u != t:
             with open(p, "w", encoding="utf-8") as f:
                 f.write(u)
-    with open(kept, "w", encoding="utf-8") as f:
-        json.dump(new, f, ensure_ascii=False, indent=0, sort_keys=True)
-        f.write("\n")
 
 
 main(sys.argv[1:])
