@@ -1,14 +1,11 @@
--- What a call finds whose number is 0: each check of its list is passed, so the log can be cleared or read, and there is room
--- for a link. A call whose number is not 0 changes nothing.
-use Prim.Native.Nat.{ℕ, zero, suc, ◌≤◌, ◌<◌}
-use mathlib.Core.Path.{◌≡◌, refl, sym, ◌∙◌}
+-- What a link finds whose number is 0: each check of its list is passed, so the log can be read and there is room for the link.
+use Prim.Native.Nat.{ℕ, ◌<◌}
+use mathlib.Core.Path.{◌≡◌}
 use mathlib.Core.Bool.{true}
 use mathlib.Core.List.{List}
 use native.Mathlib.Omega.{arith}
 use native.Mathlib.Nat.{zero-lt-suc, mod-lt}
-use borrow.Author.Tests.{ltb-true, leb-true}
-use lib.ListN.{length}
-use Rattle.settings.specs.declared.Settings.{Settings}
+use borrow.Author.Tests.{ltb-true}
 use Rattle.cells.specs.Touching.{touch}
 use Rattle.slides.specs.Clock.{not_before_of, slide_of, place_of}
 use Rattle.slides.proofs.Slides.{moved_n, moved_place, moved_slide, place_below}
@@ -17,34 +14,13 @@ use Rattle.book_state.specs.Log.{Readable, stored}
 use Rattle.numbers.specs.Checks.{has}
 use Rattle.book_state.specs.Numbers.{log_places, are_cells_of}
 use Rattle.book_state.specs.Order.{in_order_of, never_opened_of}
-use Rattle.numbers.proofs.Checks.{first_passed, fails, unless_passed, has_length}
+use Rattle.numbers.proofs.Checks.{first_passed, fails, unless_passed}
 use Rattle.book_state.proofs.Checks.{readable, never_in_order}
 use Rattle.book_time.specs.Time.{moved_book}
 use Rattle.book_time.proofs.Moves.{chunk_after, spot_then, moved_clock, moved_count}
-use Rattle.book.specs.Calls.{Outcome, Gives, Room, open_spot, opening_number_of, link_number_of, clock_number_of}
+use Rattle.book.specs.Calls.{Room, open_spot, link_number_of, clock_number_of}
 
--- ---- an outcome by its number
-
--- a refusal changes nothing
-pub refused : (by : ℕ → Outcome) (b : Book) (log : List ℕ) → ((k : ℕ) → by (suc k) ≡ record { book = b; log = log; number = suc k })
-    → {k n : ℕ} → k ≡ n → (k ≡ 0 → ⊥) → Gives (by n) (record { book = b; number = k }) log
-refused by b log same {k} e failed = rw (← e) (unchanged k failed)
-  where
-    unchanged : (k : ℕ) → (k ≡ 0 → ⊥) → Gives (by k) (record { book = b; number = k }) log
-    unchanged zero failed = absurd (failed refl)
-    unchanged (suc k) failed = record { answered = rw (same k); logged = rw (same k) }
-
--- ---- calls that are taken
-
-pub opening_room : (s : Settings) (log : List ℕ) → opening_number_of s log ≡ 0 → log_places ≤ length log
-unfolding opening_number_of
-opening_room s log e = leb-true _ _ (sym (has_length log_places log) ∙ unless_passed _ 5 (first_passed _ _ (first_passed _ _ e).1).0)
-
-pub clock_readable : (b : Book) (log : List ℕ) (tick : ℕ) → clock_number_of b log tick ≡ 0 → Readable b.clock.n b.counts log
-unfolding clock_number_of
-clock_readable b log tick e =
-    let w = first_passed _ _ e in
-    readable b log (unless_passed _ 0 w.0) (unless_passed _ 5 (first_passed _ _ w.1).0)
+-- ---- a link that is taken
 
 pub record Taken (b : Book) (log : List ℕ) (tick one other : ℕ) : Type 0 where
   pub in_order : in_order_of b ≡ true

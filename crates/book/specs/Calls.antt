@@ -1,8 +1,8 @@
 -- What opening, link and clock give, for every book, log and argument (RULES 7). Each call is
 -- one total number, the first check that fails in the order of the table; its effects follow where that is 0, and a refusal
 -- changes nothing.
-use Rattle.std.specs.Prelude.{ℕ, zero, suc, ◌+◌, ◌≤◌, ◌<◌, ◌≡◌, Bool, List, [], ◌∷◌, ◌++◌, ltb, length, get_or, set, drop, replicate}
-use Rattle.numbers.specs.Kinds.{Cell, Counts, Labels, Log, Number, Parents, Sizes, Tick}
+use Rattle.std.specs.Prelude.{ℕ, zero, suc, ◌+◌, ◌≤◌, ◌<◌, ◌≡◌, Bool, Option, List, [], ◌∷◌, ◌++◌, ltb, length, get_or, set, drop, replicate}
+use Rattle.numbers.specs.Kinds.{Cell, Log, Number, Tick}
 use Rattle.settings.specs.Settings.{taken_number, fitting_of}
 use Rattle.settings.specs.declared.Settings.{Settings}
 use Rattle.cells.specs.Cell.{lorry_cell_of}
@@ -16,9 +16,8 @@ use Rattle.book_state.specs.Arrays.{step_limit}
 use Rattle.numbers.specs.Checks.{first_of, unless, has}
 use Rattle.book_state.specs.Numbers.{log_places, are_cells_of}
 use Rattle.book_state.specs.Log.{half_of, spot_of, start_of, stored}
-use Rattle.book_state.specs.Order.{book_of, in_order_of}
+use Rattle.book_state.specs.Order.{in_order_of}
 use Rattle.book_time.specs.Time.{emptied, moved_book}
-use Rattle.book.specs.declared.fields.FieldsAnswer.{FieldsAnswer}
 
 -- the book and its log together are the state; what a call makes of it, and the number that it gives
 pub record Outcome : Type 0 where
@@ -35,11 +34,6 @@ pub record Answer : Type 0 where
 pub record Gives (o : Outcome) (answer : Answer) (log : List ℕ) : Type 0 where
   pub answered : answer ≡ record { book = o.book; number = o.number }
   pub logged : log ≡ o.log
-
--- the same of an answer and the fields of a book that were lent
-abbrev pub GivesFields : (outcome : Outcome) (answer : FieldsAnswer) (counts : Counts) (forward_parent_of : Parents) (forward_size_of : Sizes) (backward_parent_of : Parents) (backward_size_of : Sizes) (backward_label_of : Labels) (log : Log) → Type 0
-GivesFields o answer counts forward_parent_of forward_size_of backward_parent_of backward_size_of backward_label_of log =
-    Gives o (record { book = book_of answer.clock answer.fitting counts forward_parent_of forward_size_of backward_parent_of backward_size_of backward_label_of; number = answer.number }) log
 
 -- ---- opening: 2, 6
 
@@ -88,7 +82,7 @@ link_stored b log one other =
     let spot : ℕ = open_spot b.clock in
     let count : ℕ = get_or b.counts spot 0 in
     let at : ℕ = start_of spot + (count + count) in
-    let h : Merge = merge_of_lem b.forward_parent b.forward_size step_limit one other in
+    let h : Option Merge = merge_of_lem b.forward_parent b.forward_size step_limit one other in
     record {
       book =
           record {

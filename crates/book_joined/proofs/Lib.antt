@@ -3,3 +3,4 @@ pub mod Never
 pub mod Rooted
 pub mod Steps
 pub mod Unlinked
+pub mod Asked

@@ -3,6 +3,7 @@
 -- `unite` (the crate forest).
 use Prim.Native.Nat.{ℕ, ◌≤◌, ◌<◌}
 use mathlib.Core.Path.{◌≡◌, ◌∙◌, ap, subst⁻¹}
+use Rattle.std.specs.Prelude.{Option}
 use mathlib.Core.Bool.{true}
 use mathlib.Core.List.{List, [], ◌∷◌, reverse, reverse_aux}
 use native.Mathlib.Omega.{arith}
@@ -22,7 +23,7 @@ use Rattle.forest_unite.specs.declared.Merge.{Merge}
 use Rattle.forest.proofs.Fill.{length_count_from}
 use Rattle.forest.proofs.Ranged.{Ranged}
 use Rattle.forest.proofs.Held.{held_fresh}
-use Rattle.forest_unite.proofs.United.{held_unite, stored_length}
+use Rattle.forest_unite.proofs.United.{held_unite, merged_parents_length, merged_sizes_length, merged_labels_length}
 use Rattle.book_state.specs.Arrays.{cells, step_limit, Arrays, fresh_arrays, united, united_all}
 use Rattle.book_state.proofs.Grown.{GrownIn, relabelled, grown_ranged, grown_sound}
 
@@ -95,16 +96,16 @@ module _ (x : Labelled) {xs : List Labelled} {a : Arrays} (cell : (x.link.one < 
   unfolding united
   holds_more =
       record {
-        parents_long = stored_length h.different a.parents _ _ ∙ on.parents_long;
-        sizes_long = stored_length h.different a.sizes _ _ ∙ on.sizes_long;
-        labels_long = stored_length h.different a.labels _ _ ∙ on.labels_long;
+        parents_long = merged_parents_length a.parents h ∙ on.parents_long;
+        sizes_long = merged_sizes_length a.sizes h ∙ on.sizes_long;
+        labels_long = merged_labels_length a.labels h x.label ∙ on.labels_long;
         holds =
             held_unite a.parents a.sizes a.labels x.label ranged (omega arith) (omega (arith, on.labels_long)) step_limit x.link
             cell.0 cell.1
             ∙ as_forest;
       }
     where
-      h : Merge
+      h : Option Merge
       h = merge_of_lem a.parents a.sizes step_limit x.link.one x.link.other
 
 pub holds_all : {xs : List Labelled} → EndsBelow cells xs → Holds xs (united_all fresh_arrays xs)

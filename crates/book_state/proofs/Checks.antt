@@ -20,7 +20,7 @@ use Rattle.book_state.specs.Log.{Readable}
 use Rattle.numbers.specs.Checks.{has}
 use Rattle.numbers.proofs.Checks.{has_length}
 use Rattle.book_state.specs.Numbers.{log_places, are_cells_of}
-use Rattle.book_state.specs.Order.{in_order_of_lem, in_order_of, never_opened_of}
+use Rattle.book_state.specs.Order.{in_order_of, never_opened_of}
 
 -- ---- both are cells
 
@@ -39,7 +39,7 @@ pub record Ordered (b : Book) : Type 0 where
   pub labels : labels_within_of b.backward_label 15 ≡ true
 
 pub ordered : (b : Book) → in_order_of b ≡ true → Ordered b
-unfolding in_order_of_lem
+unfolding in_order_of
 ordered b e =
     let t = clock_in_range b.clock in
     let h = held_in_range b.clock.n b.clock.b b.fitting.mounting in
@@ -81,5 +81,5 @@ readable b log e room =
 
 -- a book that was never opened is not in order
 pub never_in_order : in_order_of never_opened_of ≡ false
-unfolding never_opened_of in_order_of_lem clock_in_range
+unfolding never_opened_of in_order_of clock_in_range
 never_in_order = refl

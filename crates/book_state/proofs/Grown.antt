@@ -4,6 +4,7 @@
 -- small a link can make a walk too long.
 use Prim.Native.Nat.{ℕ, ◌<◌}
 use mathlib.Core.Path.{◌≡◌, sym, ◌∙◌, subst⁻¹}
+use Rattle.std.specs.Prelude.{Option}
 use mathlib.Core.Bool.{true}
 use mathlib.Core.List.{List, []}
 use native.Mathlib.Omega.{arith}
@@ -22,7 +23,7 @@ use Rattle.forest_check.specs.Sound.{sound_of, ends}
 use Rattle.forest_check.proofs.Facts.{ranged_sound}
 use Rattle.forest_unite.specs.declared.Merge.{Merge}
 use Rattle.forest_unite.specs.United.{merge_of_lem, merged_parents, merged_sizes}
-use Rattle.forest_unite.proofs.United.{held_unite, stored_length}
+use Rattle.forest_unite.proofs.United.{held_unite, merged_parents_length, merged_sizes_length}
 use Rattle.book_state.specs.Arrays.{cells, step_limit}
 
 pub record GrownIn (ps ss : List ℕ) : Type 0 where
@@ -61,7 +62,7 @@ module _ {ps ss : List ℕ} (g : GrownIn ps ss) where
 
   -- one link more
   module _ (one other : ℕ) (a : one < cells) (b : other < cells) where
-    abbrev h : Merge
+    abbrev h : Option Merge
     h = merge_of_lem ps ss step_limit one other
 
     abbrev x : Labelled
@@ -79,8 +80,8 @@ module _ {ps ss : List ℕ} (g : GrownIn ps ss) where
     pub grown_united : GrownIn (merged_parents ps h) (merged_sizes ss h)
     grown_united =
         record {
-          parents_long = stored_length h.different ps _ _ ∙ g.parents_long;
-          sizes_long = stored_length h.different ss _ _ ∙ g.sizes_long;
+          parents_long = merged_parents_length ps h ∙ g.parents_long;
+          sizes_long = merged_sizes_length ss h ∙ g.sizes_long;
           grown =
               relabelled (label_in [])
               (subst⁻¹ (Grown step_limit)

@@ -1,12 +1,11 @@
 -- Passes over links, one part a turn, forwards or backwards: all that such a pass uses is that the links from part i on are
 -- part i and then the links from part i + 1 on. The pairs of a log place are such parts, and so are the places of a chunk.
-use Prim.Native.Nat.{ℕ, suc, ◌+◌, ◌-◌, ◌*◌, ◌≤◌, ◌<◌}
+use Prim.Native.Nat.{ℕ, suc, ◌+◌, ◌-◌, ◌*◌, ◌<◌}
 use mathlib.Core.Path.{◌≡◌, refl, ap}
 use mathlib.Core.Bool.{Bool, true, false, cond, ◌&&◌}
 use mathlib.Core.List.{List, [], ◌∷◌, ◌++◌, map}
 use native.Mathlib.Omega.{arith}
 use lib.Dec.{ltb}
-use lib.ListN.{length}
 use Rattle.numbers.specs.Kinds.{Counts, Label, Log}
 use Rattle.graph.specs.Link.{Link}
 use Rattle.graph.specs.Forest.{Labelled}
@@ -41,12 +40,6 @@ module _ (label : Label) (log : Log) (start : ℕ) where
   abbrev pub pairs_from : (count i : ℕ) → List Labelled
   pairs_from count i = map (labelled label) (links_at log (start + 2 * i) (count - i))
 
-  pub pairs_all : (count : ℕ) → pairs_from count 0 ≡ map (labelled label) (links_at log start count)
-  pairs_all count =
-      let first : start + 2 * 0 ≡ start = omega arith in
-      let all : count - 0 ≡ count = omega arith in
-      rw (first, all)
-
   pub pair_parts : (count : ℕ) → Parts count pair_links (pairs_from count)
   unfolding links_at
   pair_parts count = counted_parts count pair_links (λ i more. map (labelled label) (links_at log (start + 2 * i) more)) (λ i. refl) front
@@ -61,13 +54,6 @@ module _ (label : Label) (log : Log) (start : ℕ) where
       front : (i more : ℕ) → map (labelled label) (links_at log (start + 2 * i) (suc more))
           ≡ pair_links i ++ map (labelled label) (links_at log (start + 2 * (i + 1)) more)
       front i more = let on : start + 2 * (i + 1) ≡ start + 2 * i + 2 = omega arith in rw on (kept (pair_at log (start + 2 * i)) (links_at log (start + 2 * i + 2) more))
-
-  pub pair_few : (i : ℕ) → length (pair_links i) ≤ 1
-  pair_few i = go (ltb (pair_at log (start + 2 * i)).one cells && ltb (pair_at log (start + 2 * i)).other cells)
-    where
-      go : (t : Bool) → length (map (labelled label) (cond t (pair_at log (start + 2 * i) ∷ []) [])) ≤ 1
-      go true = omega arith
-      go false = omega arith
 
 -- ---- the places of a chunk
 

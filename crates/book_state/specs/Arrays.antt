@@ -1,6 +1,6 @@
 -- How many cells a book has, and how many steps a walk takes at most; a labelled forest in three lists, and links united into it
 -- one after the other (RULES 3).
-use Rattle.std.specs.Prelude.{ℕ, List, [], ◌∷◌}
+use Rattle.std.specs.Prelude.{ℕ, Option, List, [], ◌∷◌}
 use Rattle.numbers.specs.Kinds.{Label, Labels, Parents, Sizes}
 use Rattle.graph.specs.Forest.{Labelled}
 use Rattle.forest.specs.Arrays.{places, fresh_parents_of, fresh_sizes_of, fresh_labels_of}
@@ -28,7 +28,7 @@ arrays_of parents sizes labels = record { parents = parents; sizes = sizes; labe
 abbrev pub fresh_arrays : Arrays
 fresh_arrays = record { parents = fresh_parents_of places; sizes = fresh_sizes_of places; labels = fresh_labels_of places }
 
-abbrev pub merged_arrays : (arrays : Arrays) (label : Label) (merge : Merge) → Arrays
+abbrev pub merged_arrays : (arrays : Arrays) (label : Label) (merge : Option Merge) → Arrays
 merged_arrays a label h = record { parents = merged_parents a.parents h; sizes = merged_sizes a.sizes h; labels = merged_labels a.labels h label }
 
 -- one link more

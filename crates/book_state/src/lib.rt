@@ -6,7 +6,8 @@ pub mod order; // order.rt: number 1, whether a book's fields are in their range
 pub mod spots; // spots.rt: where the links of a slide are counted and logged
 
 ghost use Rattle.std.specs.Prelude.{◌≡◌};
-ghost use Rattle.book_state.specs.Numbers.{are_cells_of};
+ghost use Rattle.numbers.specs.Checks.{has};
+ghost use Rattle.book_state.specs.Numbers.{are_cells_of, log_places};
 ghost use Rattle.book_state.specs.Order.{never_opened_of};
 
 use forest::PLACES;
@@ -20,10 +21,18 @@ pub const STEP_LIMIT: u8 = 10;
 pub fn are_cells(one: u16, other: u16) -> bool
     ensures { result ≡ are_cells_of one other }
 {
-    if CELLS <= one {
-        return false;
-    }
-    other < CELLS
+    one < CELLS && other < CELLS
+}
+
+// How many places a log has, at least.
+pub const LOG_PLACES: usize = 16384;
+
+// Whether a log has them: number 6 asks it.
+#[tactic(auto, using(numbers::proofs::Checks::has_length))]
+pub fn has_room(log: &[u16]) -> bool
+    ensures { result ≡ has log_places log.now }
+{
+    LOG_PLACES <= log.len()
 }
 
 // The settings and the total of the ticks, the links stored in each place of the last two chunks, and the two forests.
@@ -44,6 +53,7 @@ pub struct Book {
 }
 
 // A book that was never opened: it is not in order (RULES 7.8).
+#[tactic(auto, unfolding(crate::specs::Order::never_opened_of))]
 pub fn never_opened() -> Book
     ensures { result ≡ never_opened_of }
 {

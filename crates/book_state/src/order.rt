@@ -1,45 +1,55 @@
 // Number 1 (RULES 7.8), for a whole book: its fields are in their ranges, and no walk in either forest exceeds its steps.
 ghost use Rattle.std.specs.Prelude.{◌≡◌};
-ghost use Rattle.book_state.specs.Order.{in_order_of_lem};
+ghost use Rattle.book_state.specs.Order.{in_order_of};
 
-use super::STEP_LIMIT;
+use super::{Book, STEP_LIMIT};
 use cells::Fitting;
 use settings::Settings;
 use slides::Clock;
 
-// Whether the book with these fields is in order.
-pub fn in_order<'a>(
+impl Book {
+    // Whether the book is in order.
+    pub fn in_order(&self) -> bool
+        ensures { result ≡ in_order_of self.now }
+    {
+        in_order(
+            self.clock,
+            self.fitting,
+            &self.counts,
+            &self.forward_parent,
+            &self.forward_size,
+            &self.backward_parent,
+            &self.backward_size,
+            &self.backward_label,
+        )
+    }
+}
+
+// The same of a book's fields, each lent for itself. They stay one by one here alone: this function promises its answer for slices of any
+// length, which no book has.
+#[tactic(auto, unfolding(crate::specs::Order::in_order_of))]
+pub fn in_order(
     clock: Clock,
     fitting: Fitting,
-    counts: &'a [u16],
-    forward_parent: &'a [u16],
-    forward_size: &'a [u16],
-    backward_parent: &'a [u16],
-    backward_size: &'a [u16],
-    backward_label: &'a [u8],
+    counts: &[u16],
+    forward_parent: &[u16],
+    forward_size: &[u16],
+    backward_parent: &[u16],
+    backward_size: &[u16],
+    backward_label: &[u8],
 ) -> bool
-    ensures { result ≡ in_order_of_lem clock fitting counts.now forward_parent.now forward_size.now backward_parent.now backward_size.now backward_label.now }
+    ensures { result ≡ in_order_of (record { forward_parent = forward_parent.now; forward_size = forward_size.now; backward_parent = backward_parent.now; backward_size = backward_size.now; counts = counts.now; clock = clock; backward_label = backward_label.now; fitting = fitting }) }
 {
-    if !slides::in_range(clock) {
-        return false;
-    }
     let held = Settings {
         t0: clock.t0,
         b: clock.b,
         n: clock.n,
         mounting: fitting.mounting,
     };
-    if settings::judge(held) != 0 {
-        return false;
-    }
-    if !forest_check::all_within(counts, 0, 257) {
-        return false;
-    }
-    if !forest_check::sound(forward_parent, forward_size, STEP_LIMIT) {
-        return false;
-    }
-    if !forest_check::sound(backward_parent, backward_size, STEP_LIMIT) {
-        return false;
-    }
-    forest_check::labels_within(backward_label, 15)
+    slides::in_range(clock)
+        && settings::judge(held).is_ok()
+        && forest_check::all_within(counts, 0, 257)
+        && forest_check::sound(forward_parent, forward_size, STEP_LIMIT)
+        && forest_check::sound(backward_parent, backward_size, STEP_LIMIT)
+        && forest_check::labels_within(backward_label, 15)
 }

@@ -23,7 +23,7 @@ pub fn stored(clock: Clock, counts: &[u16], slide: u64) -> u16
         return 0;
     }
     let at = spot(clock, slide);
-    if at < counts.len() { counts[at] } else { 0 }
+    counts.get(at).copied().unwrap_or(0)
 }
 
 // The first `count` places made 0, and no others.
@@ -31,9 +31,5 @@ pub fn clear(places: &mut [u16], count: usize)
     requires { count ≤ length places.old }
     ensures { places.new ≡ replicate count 0 ++ drop count places.old }
 {
-    let mut i = 0;
-    while i < count {
-        places[i] = 0;
-        i += 1;
-    }
+    places[..count].fill(0);
 }

@@ -1,12 +1,11 @@
 -- When number 1 cannot come from a book, whatever links it takes. Playing a file asks this once, and then number 1 at no record.
 use Rattle.std.specs.Prelude.{ℕ, zero, suc, ◌+◌, Bool, cond, ◌&&◌, eqb, length}
-use Rattle.numbers.specs.Kinds.{Counts, Labels, Parents, Sizes}
-use Rattle.cells.specs.declared.Fitting.{Fitting}
-use Rattle.slides.specs.declared.Clock.{Clock}
+use Rattle.numbers.specs.Kinds.{Parents, Sizes}
 use Rattle.forest.specs.Arrays.{places, parent_in, size_in}
 use Rattle.forest_check.specs.Sound.{every, doubles_at}
 use Rattle.book_state.specs.Arrays.{cells}
-use Rattle.book_state.specs.Order.{in_order_of_lem}
+use Rattle.book_state.specs.declared.Book.{Book}
+use Rattle.book_state.specs.Order.{in_order_of}
 
 -- the sizes of the roots below n, together
 unfoldable pub root_cells : (parents : Parents) (sizes : Sizes) (n : ℕ) → ℕ
@@ -18,7 +17,6 @@ root_cells ps ss (suc n) = root_cells ps ss n + cond (eqb (parent_in ps n) n) (s
 abbrev pub grown_of : (parents : Parents) (sizes : Sizes) → Bool
 grown_of ps ss = eqb (length ps) places && every (doubles_at ss) 0 ps && eqb (root_cells ps ss places) cells
 
--- the book of these fields is in order and stays so
-unfoldable pub steady_of : (clock : Clock) (fitting : Fitting) (counts : Counts) (forward_parent_of : Parents) (forward_size_of : Sizes) (backward_parent_of : Parents) (backward_size_of : Sizes) (backward_label_of : Labels) → Bool
-steady_of clock fitting counts forward_parent_of forward_size_of backward_parent_of backward_size_of backward_label_of =
-    in_order_of_lem clock fitting counts forward_parent_of forward_size_of backward_parent_of backward_size_of backward_label_of && grown_of forward_parent_of forward_size_of
+-- the book is in order and stays so
+unfoldable pub steady_of : (book : Book) → Bool
+steady_of b = in_order_of b && grown_of b.forward_parent b.forward_size

@@ -11,62 +11,31 @@ ghost use Rattle.book_state.specs.Arrays.{step_limit};
 ghost use Rattle.forest_check.specs.Sound.{sound_of};
 ghost use Rattle.book_steady.specs.Steady.{grown_of, steady_of};
 
-use book_state::{CELLS, order};
-use cells::Fitting;
+use book_state::{Book, CELLS};
 use forest::PLACES;
-use slides::Clock;
 
-// Whether the book with these fields is in order and stays so.
-pub fn steady<'a>(
-    clock: Clock,
-    fitting: Fitting,
-    counts: &'a [u16; 32],
-    forward_parent: &'a [u16; PLACES],
-    forward_size: &'a [u16; PLACES],
-    backward_parent: &'a [u16; PLACES],
-    backward_size: &'a [u16; PLACES],
-    backward_label: &'a [u8; PLACES],
-) -> bool
-    ensures { result ≡ steady_of clock fitting counts.now forward_parent.now forward_size.now backward_parent.now backward_size.now backward_label.now }
+// Whether the book is in order and stays so.
+#[tactic(auto, unfolding(crate::specs::Steady::steady_of))]
+pub fn steady(book: &Book) -> bool
+    ensures { result ≡ steady_of book.now }
 {
-    let ordered = order::in_order(
-        clock,
-        fitting,
-        counts,
-        forward_parent,
-        forward_size,
-        backward_parent,
-        backward_size,
-        backward_label,
-    );
-    if !ordered {
-        return false;
-    }
-    grown(forward_parent, forward_size)
+    book.in_order() && grown(&book.forward_parent, &book.forward_size)
 }
 
 // Whether each step doubles the size, and the roots' sizes add up to the cells.
-fn grown<'a>(parent: &'a [u16], size: &'a [u16]) -> bool
+fn grown(parent: &[u16; PLACES], size: &[u16; PLACES]) -> bool
     requires { sound_of parent.now size.now step_limit ≡ true }
     ensures { result ≡ grown_of parent.now size.now }
 {
-    if parent.len() != PLACES {
-        return false;
-    }
     let mut cells: u32 = 0;
-    let mut i = 0;
-    while i < PLACES {
+    for i in 0..PLACES {
         let up = parent[i] as usize;
         let own = size[i] as u32;
         if up == i {
             cells += own;
-            i += 1;
-            continue;
-        }
-        if (size[up] as u32) < 2 * own {
+        } else if (size[up] as u32) < 2 * own {
             return false;
         }
-        i += 1;
     }
     cells == CELLS as u32
 }

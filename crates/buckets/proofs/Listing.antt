@@ -1,15 +1,14 @@
--- The lists begin empty (`none_listed`) and grow by one entry: it becomes the first of its key, and what was first comes next
--- (`list_turn`). What is left in the end is fixed (`one_listing`).
-use Prim.Native.Nat.{ℕ, ◌<◌, ◌≤◌, ◌+◌, ◌-◌}
-use mathlib.Core.Path.{◌≡◌, refl, sym, ◌∙◌}
+-- The lists begin empty (`none_listed`) and grow by one entry (`list_more`). What is left in the end is fixed (`one_listing`).
+use Prim.Native.Nat.{ℕ, ◌+◌, ◌<◌, ◌≤◌}
+use mathlib.Core.Path.{◌≡◌, sym, ◌∙◌}
 use mathlib.Core.List.{List, ◌++◌}
-use mathlib.Core.Logic.{⊎_elim}
-use native.Mathlib.Decide.{ℕ_discrete, dec_le}
-use native.Mathlib.Nat.{eq-or-lt_of_le, le_refl, le_of_lt, le_antisymm}
+use native.Mathlib.Decide.{dec_le}
+use native.Mathlib.Nat.{le_antisymm}
 use native.Mathlib.Omega.{arith}
 use Prim.Native.Nat.{zero-le}
-use lib.ListN.{length, get_or, set, take, replicate, length-set, length-replicate, get_or-replicate, take-append-drop}
-use lib.Seq.{length-take-le, get_or-take, get_or-set_same, get_or-set_other, ext_get_or}
+use lib.ListN.{length, get_or, set, length-set, take, replicate, length-replicate, get_or-replicate, take-append-drop}
+use lib.Seq.{length-take-le, get_or-take, ext_get_or}
+use Rattle.std.proofs.lemmas.Grind.{common_steps}
 use Rattle.buckets.specs.Listed.{FirstFrom, AllBelow, Listed, AllListed}
 
 -- no entry is listed yet
@@ -27,58 +26,17 @@ none_listed bound {keys} {next} {end} inside long e =
       next_of = λ i le lt. absurd (omega arith);
     })
 
-pub same_bound : {keys first next : List ℕ} {bound bound' start : ℕ} → bound ≡ bound' → Listed keys bound start first next → Listed keys bound' start first next
-same_bound e l = rw e at l
-
--- no entry of a key comes before itself
-first_itself : (keys : List ℕ) (i : ℕ) → i < length keys → FirstFrom keys (get_or keys i 0) i i
-first_itself keys i h =
-    record { from = le_refl i; within = le_of_lt h; has = λ _. refl; none_before = λ j le lt e. omega arith }
-
--- an entry of another key changes nothing
-first_earlier : {keys : List ℕ} {key i entry : ℕ} → (get_or keys i 0 ≡ key → ⊥) → FirstFrom keys key (i + 1) entry → FirstFrom keys key i entry
-first_earlier {keys} {key} {i} {entry} other f =
+-- one entry more becomes the first of its key, and what was first comes next
+pub list_more : {keys first next : List ℕ} {bound i j key : ℕ} → j ≡ i + 1 → i < length keys → key ≡ get_or keys i 0 → Listed keys bound j first next
+    → Listed keys bound i (set first key i) (set next i (get_or first key 0))
+list_more j h e l =
     record {
-      from = omega (arith, f.from);
-      within = f.within;
-      has = f.has;
-      none_before = λ j le lt. ⊎_elim (λ e. rw (← e) other) (λ later. f.none_before j (omega arith) lt) (eq-or-lt_of_le le);
+      inside = l.inside;
+      first_long = simp length-set l.first_long;
+      next_long = simp length-set l.next_long;
+      first_of = grind (arith, common_steps);
+      next_of = grind (arith, common_steps);
     }
-
-module _ {keys first next : List ℕ} {bound i : ℕ} (l : Listed keys bound (i + 1) first next) (h : i < length keys) where
-  abbrev key : ℕ
-  key = get_or keys i 0
-
-  first_more : (k : ℕ) → k < bound → FirstFrom keys k i (get_or (set first key i) k 0)
-  first_more k hk =
-      elim (ℕ_discrete key k) [
-        | yes e ↦ rw (← e, get_or-set_same first key i 0 (omega (arith, l.inside i h, l.first_long))) (first_itself keys i h)
-        | no ne ↦ rw (get_or-set_other first key k i 0 (λ e. ne (sym e))) (first_earlier ne (l.first_of k hk))
-      ]
-
-  next_more : (j : ℕ) → i ≤ j → j < length keys → FirstFrom keys (get_or keys j 0) (j + 1) (get_or (set next i (get_or first key 0)) j 0)
-  next_more j le hj =
-      ⊎_elim
-      (λ e. rw (← e, get_or-set_same next i (get_or first key 0) 0 (omega (arith, l.next_long))) (l.first_of key (l.inside i h)))
-      (λ lt. rw (get_or-set_other next i j (get_or first key 0) 0 (λ e. omega arith)) (l.next_of j (omega arith) hj))
-      (eq-or-lt_of_le le)
-
-  list_more : Listed keys bound i (set first key i) (set next i (get_or first key 0))
-  list_more =
-      record {
-        inside = l.inside;
-        first_long = simp length-set l.first_long;
-        next_long = simp length-set l.next_long;
-        first_of = first_more;
-        next_of = next_more;
-      }
-
--- a turn: the entries at `entry` and after are listed, and then the one before it
-pub list_turn : {keys first next : List ℕ} {bound entry key : ℕ} → Listed keys bound entry first next → 0 < entry → entry ≤ length keys → key ≡ get_or keys (entry - 1) 0
-    → (key < length first) × Listed keys bound (entry - 1) (set first key (entry - 1)) (set next (entry - 1) (get_or first key 0))
-list_turn {keys} {first} {next} {bound} {entry} l some within e =
-    let one : entry ≡ entry - 1 + 1 = omega arith in
-    rw e (omega (arith, l.inside (entry - 1) (omega arith), l.first_long), list_more (rw one at l) (omega arith))
 
 first_least : {keys : List ℕ} {key start a b : ℕ} → FirstFrom keys key start a → FirstFrom keys key start b → Dec (a ≤ b) → a ≤ b
 first_least f g (yes le) = le

@@ -11,14 +11,7 @@ pub fn entry_at(list: &[u16], place: usize) -> usize
     requires { place < length list.now }
     ensures { result ≡ get_or list.now place 0 }
 {
-    wide(list[place])
-}
-
-// The number in the width of a length.
-fn wide(x: u16) -> usize
-    ensures { result ≡ x }
-{
-    x as usize
+    usize::from(list[place])
 }
 
 // Lists the entries of each key. To begin with no entry is listed: each key's first is the number of entries, which ends a list.
@@ -27,9 +20,7 @@ pub fn list_entries(keys: &[u16], first: &mut [u16], next: &mut [u16])
     requires empty { Listed keys.now (length first.old) (length keys.now) first.old next.old }
     ensures { AllListed keys.now first.old next.old first.new next.new }
 {
-    let mut entry = keys.len();
-    while 0 < entry {
-        entry -= 1;
+    for entry in (0..keys.len()).rev() {
         let key = entry_at(keys, entry);
         next[entry] = first[key];
         first[key] = entry as u16;

@@ -2,19 +2,20 @@
 --
 -- The labels of window say it in one go. With j the largest label such that the links from it on chain the two, L is
 -- k + j - n and the hold is j - 1. A cell and itself are chained with no link at all, so j is then n + 1: L is k + 1 and the hold n.
-use Rattle.std.specs.Prelude.{ℕ, zero, suc, ◌+◌, ◌-◌, ◌≤◌, ◌<◌, ◌≡◌, ◌&&◌, List, [], ◌∷◌, ltb, length}
+use Rattle.std.specs.Prelude.{ℕ, zero, suc, ◌+◌, ◌-◌, ◌≡◌, ◌&&◌, List, [], ◌∷◌, ltb, length, Result, Ok, Err}
 use Rattle.numbers.specs.Front.{at_front}
 use Rattle.numbers.specs.Kinds.{Cell, Counts, Label, Log, Number}
 use Rattle.graph.specs.Trail.{trail_of}
-use Rattle.slides.specs.Clock.{total_most, open_slide_of}
+use Rattle.slides.specs.Clock.{open_slide_of}
 use Rattle.slides.specs.declared.Clock.{Clock}
+use Rattle.refusals.specs.declared.Refusal.{Refusal}
+use Rattle.refusals.specs.Number.{code_of}
 use Rattle.book_state.specs.declared.Book.{Book}
-use Rattle.book_state.specs.Arrays.{cells}
-use Rattle.book_state.specs.Log.{Readable}
 use Rattle.book_state.specs.Order.{in_order_of}
 use Rattle.numbers.specs.Checks.{first_of, unless, has}
 use Rattle.book_state.specs.Numbers.{log_places, are_cells_of}
 use Rattle.window.specs.Window.{window_links, links_from_label, highest}
+use Rattle.chain.specs.declared.Chain.{Chain}
 use Rattle.chain.specs.declared.ChainAnswer.{ChainAnswer}
 
 -- how many places the chain buffer must have
@@ -43,6 +44,11 @@ chain_number b log chain one other =
     ∷ trail_number b.clock b.counts log one other
     ∷ [])
 
+-- what is told through the interface: the number of the table, and with 0 what was found
+abbrev pub told : Result Chain Refusal → ChainAnswer
+told (Ok chain) = record { newest = chain.newest; cells = chain.cells; hold = chain.hold; number = 0 }
+told (Err refusal) = record { newest = 0; cells = 0; hold = 0; number = code_of refusal }
+
 -- the answer, and what the chain buffer holds afterwards
 pub record ChainOutcome : Type 0 where
   pub answer : ChainAnswer
@@ -63,20 +69,7 @@ chain_by_number (suc k) clock counts log chain one other =
 unfoldable pub chain_of : (book : Book) (log : Log) (chain : List Cell) (one other : Cell) → ChainOutcome
 chain_of b log chain one other = chain_by_number (chain_number b log chain one other) b.clock b.counts log chain one other
 
--- the same of the window alone, where numbers 1, 6 and 3 are not given
-abbrev pub window_chain : (clock : Clock) (counts : Counts) (log : Log) (chain : List Cell) (one other : Cell) → ChainOutcome
-window_chain clock counts log chain one other =
-    chain_by_number (trail_number clock counts log one other) clock counts log chain one other
-
 -- an answer and a chain buffer are those of an outcome
 pub record GivesChain (o : ChainOutcome) (answer : ChainAnswer) (chain : List Cell) : Type 0 where
   pub answered : answer ≡ o.answer
   pub written : chain ≡ o.chain
-
--- what the checks 1, 6 and 3 leave known
-pub record ChecksPassed (clock : Clock) (counts : Counts) (log : Log) (chain : List Cell) (one other : Cell) : Type 0 where
-  pub readable : Readable clock.n counts log
-  pub total_most_lem : clock.total ≤ total_most
-  pub chain_room : chain_places ≤ length chain
-  pub one_cell : one < cells
-  pub other_cell : other < cells

@@ -1,75 +1,55 @@
 -- The descent from the first cell to the second: the best trail is what is written, and then the best trail from the cell
 -- that the descent has come to. A turn writes that cell and goes on to the next one (`trail_onward`).
-use Prim.Native.Nat.{ℕ, ◌+◌, ◌≤◌, ◌<◌}
-use native.Mathlib.Decide.{dec_lt}
+use Prim.Native.Nat.{ℕ, ◌+◌, ◌<◌}
 use native.Mathlib.Nat.{pos_of_ne-zero}
 use native.Mathlib.Numerals.{add-one}
 use native.Mathlib.Omega.{arith}
-use mathlib.Core.Path.{◌≡◌, refl, sym, ◌∙◌, ap, ap₂}
+use mathlib.Core.Path.{◌≡◌, sym, ◌∙◌, ap, ap₂}
 use mathlib.Core.List.{List, [], ◌∷◌, ◌++◌, append_assoc}
-use lib.ListN.{length, get_or, set, take, drop, length-set, take-append-drop, get_or-eq_default}
+use lib.ListN.{length, get_or, set, take, drop, length-set, take-append-drop}
 use lib.Seq.{take-suc-set, drop-set-lt}
 use Rattle.numbers.specs.Front.{at_front}
+use Rattle.graph.specs.Link.{Link}
 use Rattle.graph.specs.Trail.{trail_of}
 use Rattle.graph.proofs.Finder.{trail_of_same}
-use Rattle.chain_fewest.specs.Lists.{links_of}
 use Rattle.chain_fewest.specs.Levels.{Known}
 use Rattle.chain_fewest.specs.Descent.{Nearer, NextCell, DescentReady}
 use Rattle.chain_fewest.proofs.Onward.{some_nearer, trail_onward, one_left}
 
--- a cell whose number is known is one of the cells
-pub known_inside : (remaining : List ℕ) (c : ℕ) → Known remaining c → c < length remaining
-known_inside remaining c known =
-    elim (dec_lt c (length remaining)) [
-      | yes h ↦ h
-      | no h ↦ let le : length remaining ≤ c = omega arith in absurd (omega (arith, get_or-eq_default remaining 0 le))
-    ]
-
 -- the descent has come to the cell, with the places before `place` written
 pub record Descending
-    (ones others first_one_of next_one_of first_other_of next_other_of remaining : List ℕ) (one other : ℕ) (chain₀ : List ℕ)
-    (chain : List ℕ) (place cell : ℕ) : Type 0
+    (ls : List Link) (remaining : List ℕ) (one other : ℕ) (chain₀ chain : List ℕ) (place cell : ℕ) : Type 0
   where
-    pub down : DescentReady ones others first_one_of next_one_of first_other_of next_other_of remaining one other chain₀
+    pub down : DescentReady ls remaining one other chain₀
     pub long : length chain ≡ length chain₀
     pub known : Known remaining cell
     pub sum : place + get_or remaining cell 0 ≡ get_or remaining one 0
-    pub written : trail_of (links_of ones others) one other ≡ take place chain ++ trail_of (links_of ones others) cell other
+    pub written : trail_of ls one other ≡ take place chain ++ trail_of ls cell other
     pub rest : drop (get_or remaining one 0) chain ≡ drop (get_or remaining one 0) chain₀
 
-pub descending_begins :
-    {ones others first_one_of next_one_of first_other_of next_other_of remaining chain : List ℕ} {one other : ℕ} →
-    DescentReady ones others first_one_of next_one_of first_other_of next_other_of remaining one other chain →
-    Descending ones others first_one_of next_one_of first_other_of next_other_of remaining one other chain chain 0 one
-descending_begins d =
-    record { down = d; long = refl; known = d.known; sum = omega arith; written = refl; rest = refl }
-
 module _
-    {ones others first_one_of next_one_of first_other_of next_other_of remaining chain₀ chain : List ℕ} {one other place cell : ℕ}
-    (d : Descending ones others first_one_of next_one_of first_other_of next_other_of remaining one other chain₀ chain place cell)
+    {ls : List Link} {remaining chain₀ chain : List ℕ} {one other place cell : ℕ}
+    (d : Descending ls remaining one other chain₀ chain place cell)
   where
-    -- the cell has room in the chain, and fits there
-    pub has_place : (place < length chain) × (cell < length remaining) × (cell < 65536)
-    has_place =
-        let inside = known_inside remaining cell d.known in
-        (omega (arith, d.sum, d.known, d.down.room, d.long), inside, omega (arith, d.down.few))
+    -- the cell has room in the chain
+    pub has_place : place < length chain
+    has_place = omega (arith, d.sum, d.known, d.down.room, d.long)
 
     -- one more place is written
     written_more : take (place + 1) (set chain place cell) ≡ take place chain ++ (cell ∷ [])
-    written_more = rw add-one (take-suc-set chain place cell has_place.0)
+    written_more = rw add-one (take-suc-set chain place cell has_place)
 
     rest_more : drop (get_or remaining one 0) (set chain place cell) ≡ drop (get_or remaining one 0) chain₀
     rest_more = drop-set-lt (get_or remaining one 0) chain place cell (omega (arith, d.sum, d.known)) ∙ d.rest
 
-    pub descending_nearer : (cell ≡ other → ⊥) → (x : ℕ) × Nearer (links_of ones others) remaining cell x
+    pub descending_nearer : (cell ≡ other → ⊥) → (x : ℕ) × Nearer ls remaining cell x
     descending_nearer = some_nearer d.down.counted d.known
 
     pub descending_turns :
         {next : ℕ} →
         (cell ≡ other → ⊥) →
-        NextCell (links_of ones others) remaining cell next →
-        Descending ones others first_one_of next_one_of first_other_of next_other_of remaining one other chain₀ (set chain place cell) (place + 1)
-        next
+        NextCell ls remaining cell next →
+        Descending ls remaining one other chain₀ (set chain place cell) (place + 1) next
     descending_turns {next} apart x =
         record {
           down = d.down;
@@ -86,16 +66,16 @@ module _
         known = pos_of_ne-zero (λ none. apart (one_left d.down.counted (omega (arith, x.nearer.fewer))))
 
     pub descending_ends :
-        cell ≡ other → set chain place cell ≡ at_front (trail_of (links_of ones others) one other) chain₀
+        cell ≡ other → set chain place cell ≡ at_front (trail_of ls one other) chain₀
     descending_ends e =
         sym (take-append-drop (place + 1) (set chain place cell))
         ∙ ap₂ ◌++◌ (sym all) (rw (← count, ← d.down.counted.counts one) rest_more)
       where
         -- the second cell's trail is that cell
-        last : trail_of (links_of ones others) cell other ≡ cell ∷ []
-        last = rw e (trail_of_same (links_of ones others) other)
+        last : trail_of ls cell other ≡ cell ∷ []
+        last = rw e (trail_of_same ls other)
 
-        all : trail_of (links_of ones others) one other ≡ take (place + 1) (set chain place cell)
+        all : trail_of ls one other ≡ take (place + 1) (set chain place cell)
         all = d.written ∙ ap (λ cs. take place chain ++ cs) last ∙ sym written_more
 
         count : get_or remaining one 0 ≡ place + 1

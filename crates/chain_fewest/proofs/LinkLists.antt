@@ -1,6 +1,6 @@
 -- The links that two lists of cells hold: two cells are linked exactly when a link leads from the one to the other, read from
 -- one of its two sides (`linked_leads`, `leads_linked`). And the cells across a cell's links, which a walk along its list passes.
-use Prim.Native.Nat.{ℕ, zero, suc, ◌<◌, ◌≤◌, suc-le-suc, zero-le}
+use Prim.Native.Nat.{ℕ, zero, suc, ◌<◌, suc-le-suc, zero-le}
 use mathlib.Core.Path.{◌≡◌, refl, sym}
 use mathlib.Core.List.{List, [], ◌∷◌}
 use mathlib.Core.Logic.{◌⊎◌, inl, inr, ⊎_map}
@@ -9,8 +9,10 @@ use native.Mathlib.Omega.{arith}
 use lib.ListN.{length, get_or}
 use Rattle.graph.specs.Link.{along, against, Linked, here, there}
 use Rattle.graph.proofs.Chains.{Relinks}
-use Rattle.buckets.proofs.Walk.{Walked, walk_ends}
+use Rattle.buckets.proofs.Walk.{Walked}
 use Rattle.chain_fewest.specs.Lists.{links_of, Leads, OneWay}
+use Rattle.chain_fewest.specs.Joined.{LeadsOver, side_links, joined_by}
+use Rattle.chain_fewest.specs.declared.links.Links.{Links}
 
 leads_more : {from to : List ℕ} {a b : ℕ} (x y : ℕ) → Leads from to a b → Leads (x ∷ from) (y ∷ to) a b
 leads_more x y p =
@@ -70,8 +72,16 @@ pub across_leads :
     Walked from cell P link → link < length from → across ≡ get_or to link 0 → Leads from to cell across
 across_leads {link = link} w more e = record { link = link; within = more; starts = w.has more; arrives = sym e }
 
--- past the last link P holds of all cells across
-pub all_across :
-    (P : ℕ → Type 0) {from to : List ℕ} {cell link : ℕ} →
-    Walked from cell (λ i. P (get_or to i 0)) link → length from ≤ link → (d : ℕ) → Leads from to cell d → P d
-all_across P w all d p = rw p.arrives at (walk_ends w all p.link p.within p.starts)
+-- Both sides
+
+module _ (links : Links) where
+  -- a link of a cell is read from one of the two
+  pub either_side : {a b : ℕ} → Linked a b (joined_by links) → LeadsOver links.forth a b ⊎ LeadsOver links.back a b
+  either_side h = rw (links.turned.0, links.turned.1) (linked_leads links.forth.from.now links.forth.to.now h)
+
+  -- what is read from the second is what is read from the first
+  pub back_joined : Relinks (side_links links.back) (joined_by links)
+  back_joined = rw (links.turned.0, links.turned.1) (links_turn links.forth.to.now links.forth.from.now)
+
+  pub joined_back : Relinks (joined_by links) (side_links links.back)
+  joined_back = rw (links.turned.0, links.turned.1) (links_turn links.forth.from.now links.forth.to.now)

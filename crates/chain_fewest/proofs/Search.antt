@@ -52,8 +52,8 @@ module _
     abbrev number : ℕ
     number = remaining_at remaining queue head
 
-    abbrev left_more : List ℕ
-    left_more = set remaining d (number + 1)
+    abbrev remaining_more : List ℕ
+    remaining_more = set remaining d (number + 1)
 
     abbrev queue_more : List ℕ
     queue_more = set queue tail d
@@ -61,19 +61,19 @@ module _
     at_head : Waits remaining queue head
     at_head = s.waits head (le_refl head) some
 
-    room_more : unknown left_more + 1 ≡ unknown remaining
+    room_more : unknown remaining_more + 1 ≡ unknown remaining
     room_more = unknown_set remaining d (number + 1) inside fresh (omega arith)
 
     pub has_room : tail < length queue
     has_room = omega (arith, room_more, s.room, s.long)
 
-    pub number_new : get_or left_more d 0 ≡ number + 1
+    pub number_new : get_or remaining_more d 0 ≡ number + 1
     number_new = get_or-set_same remaining d (number + 1) 0 inside
 
-    number_other : {c : ℕ} → (c ≡ d → ⊥) → get_or left_more c 0 ≡ get_or remaining c 0
+    number_other : {c : ℕ} → (c ≡ d → ⊥) → get_or remaining_more c 0 ≡ get_or remaining c 0
     number_other {c} ne = get_or-set_other remaining d c (number + 1) 0 ne
 
-    pub number_kept : (c : ℕ) → Known remaining c → get_or left_more c 0 ≡ get_or remaining c 0
+    pub number_kept : (c : ℕ) → Known remaining c → get_or remaining_more c 0 ≡ get_or remaining c 0
     number_kept c known = number_other (λ e. omega (arith, ap (λ x. get_or remaining x 0) e))
 
     cell_new : get_or queue_more tail 0 ≡ d
@@ -83,14 +83,14 @@ module _
     cell_kept i lt = get_or-set_other queue tail i d 0 (λ e. omega arith)
 
     -- the cell is the new one, or it was known
-    known_cases : (c : ℕ) → Known left_more c → (c ≡ d) ⊎ Known remaining c
+    known_cases : (c : ℕ) → Known remaining_more c → (c ≡ d) ⊎ Known remaining c
     known_cases c known =
         elim (ℕ_discrete c d) [
           | yes e ↦ inl e
           | no ne ↦ inr (rw (number_other ne) at known)
         ]
 
-    highest : (c : ℕ) → get_or left_more c 0 ≤ number + 1
+    highest : (c : ℕ) → get_or remaining_more c 0 ≤ number + 1
     highest c =
         elim (ℕ_discrete c d) [
           | yes e ↦ rw (e, number_new) (le_refl (number + 1))
@@ -98,38 +98,38 @@ module _
         ]
 
     -- a place of the queue before the new one
-    pub in_queue_kept : (i : ℕ) → head ≤ i → i < tail → remaining_at left_more queue_more i ≡ remaining_at remaining queue i
+    pub in_queue_kept : (i : ℕ) → head ≤ i → i < tail → remaining_at remaining_more queue_more i ≡ remaining_at remaining queue i
     in_queue_kept i le lt = rw (cell_kept i lt) (number_kept (get_or queue i 0) (s.waits i le lt).known)
 
-    trail_more : (c : ℕ) → Known left_more c → (cs : List ℕ) × Trail ls b c cs × (length cs ≡ get_or left_more c 0)
+    trail_more : (c : ℕ) → Known remaining_more c → (cs : List ℕ) × Trail ls b c cs × (length cs ≡ get_or remaining_more c 0)
     trail_more c known = ⊎_elim new old (known_cases c known)
       where
-        new : c ≡ d → (cs : List ℕ) × Trail ls b c cs × (length cs ≡ get_or left_more c 0)
+        new : c ≡ d → (cs : List ℕ) × Trail ls b c cs × (length cs ≡ get_or remaining_more c 0)
         new e =
             let (cs, t, long) = s.trail (get_or queue head 0) at_head.known in
             (c ∷ cs, step (linked_sym (rw (← e) at h)) t, rw (e, number_new) (omega (arith, long)))
 
-        old : Known remaining c → (cs : List ℕ) × Trail ls b c cs × (length cs ≡ get_or left_more c 0)
+        old : Known remaining c → (cs : List ℕ) × Trail ls b c cs × (length cs ≡ get_or remaining_more c 0)
         old k =
             let (cs, t, long) = s.trail c k in
             (cs, t, long ∙ sym (number_kept c k))
 
-    closed_more : (c : ℕ) → Known left_more c → Closed ls left_more c ⊎ Waiting queue_more head (tail + 1) c
+    closed_more : (c : ℕ) → Known remaining_more c → Closed ls remaining_more c ⊎ Waiting queue_more head (tail + 1) c
     closed_more c known = ⊎_elim new old (known_cases c known)
       where
-        new : c ≡ d → Closed ls left_more c ⊎ Waiting queue_more head (tail + 1) c
+        new : c ≡ d → Closed ls remaining_more c ⊎ Waiting queue_more head (tail + 1) c
         new e = inr (tail, s.passed, omega arith, cell_new ∙ sym e)
 
-        still : Known remaining c → Closed ls remaining c → Closed ls left_more c
+        still : Known remaining c → Closed ls remaining c → Closed ls remaining_more c
         still k closed x l =
             let (p, q) = closed x l in
             rw (number_kept x p, number_kept c k) (p, q)
 
-        old : Known remaining c → Closed ls left_more c ⊎ Waiting queue_more head (tail + 1) c
+        old : Known remaining c → Closed ls remaining_more c ⊎ Waiting queue_more head (tail + 1) c
         old k =
             ⊎_map (still k) (λ w. (w.0, w.1, omega (arith, w.2), cell_kept w.0 w.2 ∙ w.3)) (s.closed c k)
 
-    waits_more : (i : ℕ) → head ≤ i → (i ≡ tail) ⊎ (i < tail) → Waits left_more queue_more i
+    waits_more : (i : ℕ) → head ≤ i → (i ≡ tail) ⊎ (i < tail) → Waits remaining_more queue_more i
     waits_more i le (inl e) =
         rw e
         record {
@@ -149,12 +149,12 @@ module _
 
     rises_more :
         (i j : ℕ) → head ≤ i → i ≤ j → (j ≡ tail) ⊎ (j < tail) →
-        remaining_at left_more queue_more i ≤ remaining_at left_more queue_more j
+        remaining_at remaining_more queue_more i ≤ remaining_at remaining_more queue_more j
     rises_more i j le more (inl e) = rw (e, cell_new, number_new) (highest (get_or queue_more i 0))
     rises_more i j le more (inr lt) =
         rw (in_queue_kept i le (omega arith), in_queue_kept j (omega arith) lt) (s.rises i j le more lt)
 
-    pub search_more : Searching ls b left_more queue_more head (tail + 1)
+    pub search_more : Searching ls b remaining_more queue_more head (tail + 1)
     search_more =
         record {
           long = simp length-set s.long;

@@ -1,15 +1,16 @@
 -- The best trail, cell by cell (RULES 5): from the first cell always on to the smallest cell across a
 -- link from which one cell fewer leads on to the second.
-use Rattle.std.specs.Prelude.{ℕ, ◌+◌, ◌≤◌, ◌<◌, ◌≡◌, ◌⊎◌, List, length, get_or}
+use Rattle.std.specs.Prelude.{ℕ, ◌+◌, ◌≤◌, ◌≡◌, ◌⊎◌, List, length, get_or}
 use Rattle.graph.specs.Link.{Link, Linked}
-use Rattle.chain_fewest.specs.Lists.{links_of, Leads, BothWays}
+use Rattle.chain_fewest.specs.Joined.{LeadsOver}
+use Rattle.chain_fewest.specs.declared.links.Side.{Side}
 use Rattle.chain_fewest.specs.Levels.{Counted, Known}
 
 -- the smaller of `best` and the smallest cell across a link of the cell, read from one side, with the number
-pub record Smaller (from to remaining : List ℕ) (cell number best r : ℕ) : Type 0 where
+pub record Smaller (side : Side) (remaining : List ℕ) (cell number best r : ℕ) : Type 0 where
   pub low : r ≤ best
-  pub is : (r ≡ best) ⊎ (Leads from to cell r × (get_or remaining r 0 ≡ number))
-  pub least : (d : ℕ) → Leads from to cell d → get_or remaining d 0 ≡ number → r ≤ d
+  pub is : (r ≡ best) ⊎ (LeadsOver side cell r × (get_or remaining r 0 ≡ number))
+  pub least : (d : ℕ) → LeadsOver side cell d → get_or remaining d 0 ≡ number → r ≤ d
 
 -- d stands across a link of c, and one cell fewer leads on from it
 pub record Nearer (ls : List Link) (remaining : List ℕ) (c d : ℕ) : Type 0 where
@@ -22,11 +23,7 @@ pub record NextCell (ls : List Link) (remaining : List ℕ) (c d : ℕ) : Type 0
   pub least : (x : ℕ) → Nearer ls remaining c x → d ≤ x
 
 -- the numbers are those of the best trails to the second cell, the first cell's is known, and the chain has room for its trail
-pub record DescentReady
-    (ones others first_one_of next_one_of first_other_of next_other_of remaining : List ℕ) (one other : ℕ) (chain : List ℕ) : Type 0
-  where
-    pub few : length remaining < 65536
-    pub lists : BothWays (length remaining) ones others first_one_of next_one_of first_other_of next_other_of
-    pub counted : Counted (links_of ones others) other remaining
-    pub known : Known remaining one
-    pub room : get_or remaining one 0 ≤ length chain
+pub record DescentReady (ls : List Link) (remaining : List ℕ) (one other : ℕ) (chain : List ℕ) : Type 0 where
+  pub counted : Counted ls other remaining
+  pub known : Known remaining one
+  pub room : get_or remaining one 0 ≤ length chain

@@ -1,11 +1,13 @@
--- How many cells the best trail from each cell to the second cell has, found level by level: `left` holds the number where
--- it is known, and 0 where it is not. Cells whose number is known wait in the queue from `head` to `tail` until those
+-- How many cells the best trail from each cell to the second cell has, found level by level: `remaining` holds the number
+-- where it is known, and 0 where it is not. Cells whose number is known wait in the queue from `head` to `tail` until those
 -- across their links have theirs.
 use Rattle.std.specs.Prelude.{ℕ, zero, suc, ◌+◌, ◌≤◌, ◌<◌, ◌≡◌, ◌⊎◌, List, [], ◌∷◌, length, get_or}
 use Rattle.numbers.specs.Kinds.{Cell}
 use Rattle.graph.specs.Link.{Link, Linked}
 use Rattle.graph.specs.Trail.{Trail, trail_of}
-use Rattle.chain_fewest.specs.Lists.{links_of, Leads, OneWay}
+use Rattle.chain_fewest.specs.Joined.{side_links, LeadsOver}
+use Rattle.chain_fewest.specs.declared.links.Side.{Side}
+use Rattle.chain_fewest.specs.declared.levels.Search.{Search}
 
 -- each cell's number is that of the best trail from it to b; 0 where there is no trail
 pub record Counted (ls : List Link) (b : ℕ) (remaining : List ℕ) : Type 0 where
@@ -56,18 +58,21 @@ pub record Searching (ls : List Link) (b : ℕ) (remaining queue : List ℕ) (he
   pub waits : (i : ℕ) → head ≤ i → i < tail → Waits remaining queue i
   pub rises : (i j : ℕ) → head ≤ i → i ≤ j → j < tail → remaining_at remaining queue i ≤ remaining_at remaining queue j
 
--- a cell waits at `head`, and its links are listed, read from one side
-pub record Ready (from to first next : List ℕ) (head : ℕ) (remaining queue : List ℕ) (tail : ℕ) : Type 0 where
-  pub few : length remaining < 65535
-  pub some : head < tail
-  pub lists : OneWay (length remaining) from to first next
-  pub searching : Searching (links_of from to) (get_or queue 0 0) remaining queue head tail
+-- the same, as `Search` holds it
+abbrev pub Searches : (links : List Link) (b : ℕ) (search : Search) → Type 0
+Searches ls b s = Searching ls b s.remaining s.queue s.head s.tail
+
+-- a cell waits at `head`, and its links are read from one side
+pub record Ready (side : Side) (s : Search) : Type 0 where
+  pub some : s.head < s.tail
+  pub searching : Searches (side_links side) (get_or s.queue 0 0) s
 
 -- the numbers of the cells across those links: they are known now, and what was known still is
-pub record Reached
-    (from to : List ℕ) (head : ℕ) (remaining_before queue_before remaining queue : List ℕ) (tail : ℕ) : Type 0 where
-  pub some : head < tail
-  pub searching : Searching (links_of from to) (get_or queue_before 0 0) remaining queue head tail
-  pub kept : (c : ℕ) → Known remaining_before c → Known remaining c
-  pub place : get_or queue head 0 ≡ get_or queue_before head 0
-  pub reached : (d : ℕ) → Leads from to (get_or queue_before head 0) d → Known remaining d
+pub record Reached (side : Side) (before after : Search) : Type 0 where
+  pub long : length after.remaining ≡ length before.remaining
+  pub some : after.head < after.tail
+  pub searching : Searches (side_links side) (get_or before.queue 0 0) after
+  pub kept : (c : ℕ) → Known before.remaining c → Known after.remaining c
+  pub stays : after.head ≡ before.head
+  pub place : get_or after.queue before.head 0 ≡ get_or before.queue before.head 0
+  pub reached : (d : ℕ) → LeadsOver side (get_or before.queue before.head 0) d → Known after.remaining d

@@ -1,4 +1,5 @@
 pub mod Best
 pub mod Descent
+pub mod Joined
 pub mod Levels
 pub mod Lists

@@ -25,8 +25,3 @@ pub record OneWay (cells : ℕ) (from to first next : List ℕ) : Type 0 where
   pub even : length to ≡ length from
   pub across : AllBelow cells to
   pub listed : Listed from cells 0 first next
-
--- the links as read from either side
-pub record BothWays (cells : ℕ) (ones others first_one_of next_one_of first_other_of next_other_of : List ℕ) : Type 0 where
-  pub forth : OneWay cells ones others first_one_of next_one_of
-  pub back : OneWay cells others ones first_other_of next_other_of

@@ -5,16 +5,16 @@
 
 mod descent; // descent.rt: the best trail, from the first cell down
 mod levels; // levels.rt: how many cells lead on from each cell
+mod links; // links.rt: the links, as read from either side
 
-ghost use Rattle.forest.specs.Arrays.{places};
 ghost use Rattle.graph.specs.Trail.{trail_of};
-ghost use Rattle.chain_fewest.specs.Lists.{links_of, BothWays};
+ghost use Rattle.chain_fewest.specs.Lists.{links_of};
 ghost use Rattle.chain_fewest.specs.Best.{TrailAskable, TrailGiven};
 
-use buckets::list_entries;
 use descent::descend;
 use forest::PLACES;
-use levels::count_cells;
+use levels::Search;
+use links::{Links, Side};
 
 // Writes the best trail from one cell to the other to the front of the chain, and returns its number of cells. It has no cell
 // twice, so the chain has room.
@@ -23,70 +23,25 @@ pub fn best_trail(ones: &[u16], others: &[u16], one: u16, other: u16, chain: &mu
     ensures { TrailGiven (trail_of (links_of ones.now others.now) one other) chain.old result
         chain.new }
 {
-    // The number of links ends a list: to begin with, all are empty.
-    let links = ones.len();
-    let end = links as u16;
+    // The number of links ends a list: to begin with, all are empty. Structs of two arrays that a function gives back are copied: 1.4 µs in
+    // place of 0.6 for 16 links.
+    let end = ones.len() as u16;
     let mut first_one = [end; PLACES];
-    let mut places_one = [0u16; 4096];
-    let next_one = &mut places_one[..links];
-    list_entries(ones, &mut first_one, next_one);
+    let mut next_one = [0u16; 4096];
     let mut first_other = [end; PLACES];
-    let mut places_other = [0u16; 4096];
-    let next_other = &mut places_other[..links];
-    list_entries(others, &mut first_other, next_other);
-    trail_over(
-        ones,
-        others,
-        &first_one,
-        next_one,
-        &first_other,
-        next_other,
-        one,
-        other,
-        chain,
-    )
-}
-
-// The same, with the links of each cell listed.
-fn trail_over(
-    ones: &[u16],
-    others: &[u16],
-    first_one: &[u16],
-    next_one: &[u16],
-    first_other: &[u16],
-    next_other: &[u16],
-    one: u16,
-    other: u16,
-    chain: &mut [u16],
-) -> u16
-    requires asked { TrailAskable ones.now others.now one other chain.old }
-    requires lists { BothWays places ones.now others.now first_one.now next_one.now first_other.now
-        next_other.now }
-    ensures { TrailGiven (trail_of (links_of ones.now others.now) one other) chain.old result
-        chain.new }
-{
-    let mut remaining = [0u16; PLACES];
-    count_cells(
-        ones,
-        others,
-        first_one,
-        next_one,
-        first_other,
-        next_other,
-        other,
-        &mut remaining,
-    );
+    let mut next_other = [0u16; 4096];
+    let links = Links {
+        forth: Side::list(ones, others, &mut first_one, &mut next_one),
+        back: Side::list(others, ones, &mut first_other, &mut next_other),
+    };
+    let mut search = Search::new();
+    search.count(links, other);
     descend(
-        ones,
-        others,
-        first_one,
-        next_one,
-        first_other,
-        next_other,
-        &remaining,
+        links,
+        &search.remaining,
         one as usize,
         other as usize,
         chain,
     );
-    remaining[one as usize]
+    search.remaining[one as usize]
 }

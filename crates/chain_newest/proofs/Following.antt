@@ -2,27 +2,32 @@
 --
 -- A link that is joined stands at the front of `group`'s list, and at the end of ours; what parents stand for depends on what the links
 -- chain, and not on their order (`tracks_relinked`).
-use Prim.Native.Nat.{ℕ, zero, suc, ◌+◌, ◌*◌, ◌≤◌, ◌<◌, min, max}
-use mathlib.Core.Path.{◌≡◌, refl, sym, ap, ◌∙◌, subst}
+use Prim.Native.Nat.{ℕ, ◌+◌, ◌≤◌, ◌<◌, min, max}
+use mathlib.Core.Path.{◌≡◌, refl, sym, ap, ◌∙◌}
+use mathlib.Core.Bool.{true, false}
 use mathlib.Core.List.{List, [], ◌∷◌, ◌++◌, append-nil, append_assoc}
 use mathlib.Core.Logic.{⊎_elim}
-use native.Mathlib.Omega.{arith}
+use Rattle.std.proofs.lemmas.List.{take_all}
+use lib.ListN.{length, get_or, take}
 use Rattle.graph.specs.Link.{Link, Linked, here, there, Chained, group}
 use Rattle.graph.specs.Forest.{put}
 use Rattle.graph.proofs.Chains.{chained_group, group_chained, chained_relink, chained_left, linked_left, linked_right, linked_append_cases}
 use Rattle.forest.specs.Arrays.{places, fresh_parents_of}
 use Rattle.book_state.specs.Arrays.{cells}
-use Rattle.book_state.specs.Log.{keep, pair_at, links_at}
-use Rattle.book_state.proofs.LogLinks.{keep_append, links_more}
+use Rattle.book_state.specs.Log.{keep}
+use Rattle.book_state.specs.Numbers.{are_cells_of}
+use Rattle.book_state.proofs.Checks.{two_cells}
 use Rattle.forest_scratch.specs.declared.Roots.{Roots}
 use Rattle.forest_scratch.specs.Scratch.{Descends, roots_of, join_of, RootOf}
 use Rattle.forest_scratch.proofs.Standing.{stands_fresh}
 use Rattle.forest_scratch.proofs.Joined.{joined_descends, follow, stays, stands_joined, root_joined}
+use Rattle.window.specs.Pairs.{pair_link, links_of_pairs}
+use Rattle.window.proofs.Pairs.{pairs_more, pairs_rest}
 use Rattle.chain_newest.specs.Tracks.{Tracks, Follows}
 
 -- ---- the two cells
 
-pub tracks_met : {links : List Link} {one other : ℕ} {ps : List ℕ} {r : Roots} → Tracks links one other ps r → r.one ≡ r.other → Chained links one other
+tracks_met : {links : List Link} {one other : ℕ} {ps : List ℕ} {r : Roots} → Tracks links one other ps r → r.one ≡ r.other → Chained links one other
 tracks_met {links} t e = group_chained links (sym t.one_root.one_key ∙ ap (group links) e ∙ t.other_root.one_key)
 
 pub tracks_apart : {links : List Link} {one other : ℕ} {ps : List ℕ} {r : Roots} → Tracks links one other ps r
@@ -81,8 +86,15 @@ follows_all falls on =
 pub follows_none : {ps : List ℕ} {from : Roots} → Descends ps → Follows [] ps from ps from
 follows_none falls = follows_all falls (λ links one other t. rw (append-nil links) t)
 
--- one link
-module _ {ps : List ℕ} (down : Descends ps) {l : Link} (inside : (l.one < cells) × (l.other < cells)) where
+-- a pair with an entry that is no cell is no link
+pub follows_no_link : {ps : List ℕ} {from : Roots} (l : Link) → Descends ps → are_cells_of l.one l.other ≡ false → Follows (keep l []) ps from ps from
+follows_no_link l down e = rw e (follows_none down)
+
+-- and one of cells is one
+module _ {ps : List ℕ} (l : Link) (down : Descends ps) (are : are_cells_of l.one l.other ≡ true) where
+  inside : (l.one < cells) × (l.other < cells)
+  inside = two_cells are
+
   abbrev after : Roots → Roots
   after r = record { one = follow down inside r.one; other = follow down inside r.other }
 
@@ -96,29 +108,25 @@ module _ {ps : List ℕ} (down : Descends ps) {l : Link} (inside : (l.one < cell
         other_root = root_joined down inside t.stands t.other_root;
       }
 
-  follows_one : {from : Roots} → Follows (l ∷ []) ps from (join_of ps l.one l.other) (after from)
-  follows_one = follows_all (joined_descends down inside) (λ links one other t. tracks_relinked (to_end l links) (to_front l links) (tracks_more t))
+  follows_link : {from to : Roots} {ps' : List ℕ} → ps' ≡ join_of ps l.one l.other → to ≡ after from → Follows (keep l []) ps from ps' to
+  follows_link {from} made same =
+      rw (are, made, same)
+      (follows_all (joined_descends down inside) (λ links one other t. tracks_relinked (to_end l links) (to_front l links) (tracks_more t)))
 
   -- as the code finds it: the roots of the link's ends are one, or one goes under the other
   module _ {from r : Roots} {ps' : List ℕ} (is : r ≡ roots_of ps l.one l.other) (made : ps' ≡ join_of ps l.one l.other) where
-    pub follows_same : r.one ≡ r.other → Follows (l ∷ []) ps from ps' from
+    pub follows_same : r.one ≡ r.other → Follows (keep l []) ps from ps' from
     follows_same e =
         let q : (roots_of ps l.one l.other).one ≡ (roots_of ps l.one l.other).other = rw is at e in
-        rw made (subst (Follows (l ∷ []) ps from (join_of ps l.one l.other)) (still q) follows_one)
-      where
-        still : (roots_of ps l.one l.other).one ≡ (roots_of ps l.one l.other).other → after from ≡ from
-        still q = λ i. record { one = stays down inside q from.one i; other = stays down inside q from.other i }
+        follows_link made (λ i. record { one = sym (stays down inside q from.one) i; other = sym (stays down inside q from.other) i })
 
     pub follows_moved : {child top : ℕ} {to : Roots} → child ≡ max r.one r.other → top ≡ min r.one r.other
-        → (to.one ≡ put child top (λ c. c) from.one) × (to.other ≡ put child top (λ c. c) from.other) → Follows (l ∷ []) ps from ps' to
-    follows_moved {to} c t m = rw made (subst (Follows (l ∷ []) ps from (join_of ps l.one l.other)) (sym same) follows_one)
-      where
-        same : to ≡ after from
-        same = λ i. record { one = (rw (c, t, is) at m.0) i; other = (rw (c, t, is) at m.1) i }
+        → (to.one ≡ put child top (λ c. c) from.one) × (to.other ≡ put child top (λ c. c) from.other) → Follows (keep l []) ps from ps' to
+    follows_moved c t m = follows_link made (λ i. record { one = (rw (c, t, is) at m.0) i; other = (rw (c, t, is) at m.1) i })
 
 -- some links after others: up to where the two meet
 module _ {xs : List Link} {ps ps' : List ℕ} {from via : Roots} (f : Follows xs ps from ps' via) where
-  pub follows_met : (ys : List Link) → via.one ≡ via.other → Follows (xs ++ ys) ps from ps' via
+  follows_met : (ys : List Link) → via.one ≡ via.other → Follows (xs ++ ys) ps from ps' via
   follows_met ys e =
       record {
         falls = f.falls;
@@ -126,7 +134,7 @@ module _ {xs : List Link} {ps ps' : List ℕ} {from via : Roots} (f : Follows xs
         apart = λ links one other t n. absurd (n e);
       }
 
-  pub follows_then : {ys : List Link} {ps'' : List ℕ} {to : Roots} → (via.one ≡ via.other → ⊥) → Follows ys ps' via ps'' to → Follows (xs ++ ys) ps from ps'' to
+  follows_then : {ys : List Link} {ps'' : List ℕ} {to : Roots} → (via.one ≡ via.other → ⊥) → Follows ys ps' via ps'' to → Follows (xs ++ ys) ps from ps'' to
   follows_then {ys} n g =
       record {
         falls = g.falls;
@@ -134,40 +142,28 @@ module _ {xs : List Link} {ps ps' : List ℕ} {from via : Roots} (f : Follows xs
         apart = λ links one other t m. rw (← append_assoc links xs ys) (g.apart (links ++ xs) one other (f.apart links one other t n) m);
       }
 
--- ---- the pairs of a log place
+-- ---- the pairs of a slide
 
--- the pairs after those before i
-pub links_rest : (log : List ℕ) (start i count : ℕ) → i ≤ count → (ys : List Link) × (links_at log start count ≡ links_at log start i ++ ys)
-unfolding links_at
-links_rest log start zero count h = (links_at log start count, refl)
-links_rest log start (suc i) zero h = absurd (omega arith)
-links_rest log start (suc i) (suc count) h =
-    let rest = links_rest log (start + 2) i count (omega arith) in
-    (rest.0, ap (keep (pair_at log start)) rest.1 ∙ keep_append (pair_at log start) (links_at log (start + 2) i) rest.0)
-
--- the first i pairs are joined, and the two have not met
-pub record Joining (log : List ℕ) (start count : ℕ) (ps : List ℕ) (from : Roots) (i : ℕ) (ps' : List ℕ) (roots : Roots) : Type 0 where
-  pub within : i ≤ count
-  pub follows : Follows (links_at log start i) ps from ps' roots
+-- the pairs before i are joined, and the two have not met
+pub record Joining (pairs : List (List ℕ)) (ps : List ℕ) (from : Roots) (i : ℕ) (ps' : List ℕ) (roots : Roots) : Type 0 where
+  pub follows : Follows (links_of_pairs (take i pairs)) ps from ps' roots
   pub apart : roots.one ≡ roots.other → ⊥
 
-module _ {log : List ℕ} {start count : ℕ} {ps : List ℕ} {from : Roots} where
-  pub joining_none : Descends ps → (from.one ≡ from.other → ⊥) → Joining log start count ps from 0 ps from
-  unfolding links_at
-  joining_none down n = record { within = omega arith; follows = follows_none down; apart = n }
+module _ (pairs : List (List ℕ)) {ps : List ℕ} {from : Roots} where
+  pub joining_none : Descends ps → (from.one ≡ from.other → ⊥) → Joining pairs ps from 0 ps from
+  unfolding links_of_pairs
+  joining_none down n = record { follows = follows_none down; apart = n }
 
-  module _ {i : ℕ} {ps' : List ℕ} {via : Roots} (j : Joining log start count ps from i ps' via) where
-    pub joining_all : count ≤ i → Follows (links_at log start count) ps from ps' via
-    joining_all h = let e : i ≡ count = omega (arith, j.within) in rw e at j.follows
+  module _ {i : ℕ} {ps' : List ℕ} {via : Roots} (j : Joining pairs ps from i ps' via) where
+    pub joining_all : length pairs ≤ i → Follows (links_of_pairs pairs) ps from ps' via
+    joining_all h = rw (take_all i pairs h) at j.follows
 
-    module _ (more : i < count) {ps'' : List ℕ} {to : Roots} (f : Follows (keep (pair_at log (start + 2 * i)) []) ps' via ps'' to) where
-      on : Follows (links_at log start (i + 1)) ps from ps'' to
-      on = rw (links_more log start i) (follows_then j.follows j.apart f)
+    module _ (more : i < length pairs) {ps'' : List ℕ} {to : Roots} (f : Follows (keep (pair_link (get_or pairs i [])) []) ps' via ps'' to) where
+      on : Follows (links_of_pairs (take (i + 1) pairs)) ps from ps'' to
+      on = rw (pairs_more pairs i more) (follows_then j.follows j.apart f)
 
-      pub joining_met : to.one ≡ to.other → Follows (links_at log start count) ps from ps'' to
-      joining_met e =
-          let rest = links_rest log start (i + 1) count (omega arith) in
-          rw rest.1 (follows_met on rest.0 e)
+      pub joining_met : to.one ≡ to.other → Follows (links_of_pairs pairs) ps from ps'' to
+      joining_met e = rw (pairs_rest pairs (i + 1)) (follows_met on _ e)
 
-      pub joining_more : (to.one ≡ to.other → ⊥) → Joining log start count ps from (i + 1) ps'' to
-      joining_more n = record { within = omega arith; follows = on; apart = n }
+      pub joining_more : (to.one ≡ to.other → ⊥) → Joining pairs ps from (i + 1) ps'' to
+      joining_more n = record { follows = on; apart = n }

@@ -11,7 +11,7 @@ use Rattle.graph.specs.Forest.{Each}
 use Rattle.settings.specs.Settings.{held_in_range}
 use Rattle.slides.specs.Clock.{clock_in_range}
 use Rattle.slides.proofs.Slides.{InRange, in_range_lem}
-use Rattle.book_state.specs.Order.{in_order_of, in_order_of_lem}
+use Rattle.book_state.specs.Order.{in_order_of}
 use Rattle.demands.specs.History.{Stored, History, backward_links}
 use Rattle.demands.specs.Implementation.{State}
 use Rattle.demands.specs.Agrees.{Sensible, Agrees}
@@ -32,7 +32,7 @@ backward_labels h sensible = each_reverse (each_made (label_by (λ t. t % h.cloc
 
 module _ {h : History} {s : State} (a : Agrees h s) where
   pub agrees_in_order : in_order_of s.book ≡ true
-  unfolding in_order_of_lem
+  unfolding in_order_of
   agrees_in_order =
       simp (
         clock,

@@ -12,6 +12,7 @@ use mathlib.Core.Logic.Iff
 use mathlib.Core.Logic.{◌↔◌, ◌⊎◌}
 use native.Mathlib.Omega.{arith}
 use lib.ListN.{length, get_or}
+use Rattle.std.proofs.Common.{is_some, unwrap_or}
 use borrow.Author.Tests.{lt-ltb, eqb-true}
 use Rattle.numbers.specs.Checks.{unless}
 use Rattle.numbers.proofs.Checks.{passes, first_last, checked}
@@ -104,7 +105,7 @@ module _ {h : History} {s : State} (agrees : Agrees h s) where
     unmasked bare c inside linked =
         record { inside = inside; linked = linked; free = λ b k body. absurd (omega (arith, bare b k, eqb-true (get_or mask b 0) 1 body)) }
 
-    lamp_told : LampIs ours s h mask zone (lamp_in (held_links s) mask zone).lit (lamp_in (held_links s) mask zone).cell
+    lamp_told : LampIs ours s h mask zone (is_some (lamp_in (held_links s) mask zone)) (unwrap_or (lamp_in (held_links s) mask zone) 0)
     lamp_told =
         let says = laws.lamp_says (held_links s) mask zone in
         record {

@@ -17,7 +17,7 @@ use Rattle.forest_check.specs.Sound.{every}
 use Rattle.book_state.specs.declared.Book.{Book}
 use Rattle.book_state.specs.Arrays.{united, united_all}
 use Rattle.book_state.specs.Log.{links_at, chunk_links, stored}
-use Rattle.book_state.specs.Order.{in_order_of_lem}
+use Rattle.book_state.specs.Order.{in_order_of}
 use Rattle.book_time.specs.Time.{cleared, emptied, stayed, backward_of, turned, moved_by_chunk, moved_book}
 use Rattle.numbers.specs.Checks.{first_of, has}
 use Rattle.book_state.specs.Numbers.{log_places}
@@ -51,7 +51,7 @@ later = drop 1 script
 
 -- for any log places from 16,384 on
 computed : (rest : Log) → given (record { book = emptied (started settings) (fitting_of settings); log = replicate log_places 0 ++ rest }) later ≡ stated later
-unfolding given stated gives opening_of link_of clock_of joined_of chain_of opening_number_of opening_by_number stored link_number_of link_stored link_by_number clock_number_of clock_by_number parent_steps parent_steps_at step_links four_walks joined_number_of joined_by_number chain_number chain_by_number highest window_links links_from_age at_least trail_of first_of has cleared emptied stayed backward_of turned moved_by_chunk moved_book in_order_of_lem links_at chunk_links united united_all every count_from ahead counter_at_of not_before_of total_with_of slide_of open_slide_of place_of moved_to clock_in_range lorry_cell_over touch_over climb chains
+unfolding given stated gives opening_of link_of clock_of joined_of chain_of opening_number_of opening_by_number stored link_number_of link_stored link_by_number clock_number_of clock_by_number parent_steps parent_steps_at step_links four_walks joined_number_of joined_by_number chain_number chain_by_number highest window_links links_from_age at_least trail_of first_of has cleared emptied stayed backward_of turned moved_by_chunk moved_book in_order_of links_at chunk_links united united_all every count_from ahead counter_at_of not_before_of total_with_of slide_of open_slide_of place_of moved_to clock_in_range lorry_cell_over touch_over climb chains
 computed rest = refl
 
 pub cases : Cases

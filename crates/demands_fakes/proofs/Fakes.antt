@@ -10,6 +10,7 @@ use mathlib.Core.List.{List, [], ◌∷◌}
 use mathlib.Core.Logic.{◌⊎◌, inl, inr}
 use native.Mathlib.Omega.{arith}
 use native.Mathlib.Decide.{ℕ_discrete}
+use Rattle.std.proofs.Common.{Some, unwrap_or}
 use borrow.Author.Tests.{eqb-true}
 use lib.ListN.{length, get_or, take, drop, replicate, get_or-replicate}
 use lib.Seq.{take-append_seam}
@@ -28,7 +29,7 @@ use Rattle.forest.specs.Arrays.{count_from}
 use Rattle.forest_check.specs.Sound.{every}
 use Rattle.book_state.specs.Arrays.{cells, united, united_all}
 use Rattle.book_state.specs.Log.{links_at, chunk_links, stored}
-use Rattle.book_state.specs.Order.{in_order_of_lem}
+use Rattle.book_state.specs.Order.{in_order_of}
 use Rattle.book_time.specs.Time.{cleared, emptied, stayed, backward_of, turned, moved_by_chunk, moved_book}
 use Rattle.numbers.specs.Checks.{first_of, unless, has}
 use Rattle.book_state.specs.declared.Book.{Book}
@@ -178,7 +179,7 @@ not_chainless c =
 -- ---- a link of a cell with itself
 
 itself_taken : (gives reaching (after reaching start opened) (link 0 5 5)).number ≡ 0
-unfolding after gives opening_of link_of opening_number_of opening_by_number stored link_number_of link_stored link_by_number first_of has emptied in_order_of_lem every count_from ahead counter_at_of not_before_of total_with_of slide_of open_slide_of place_of clock_in_range touch_over climb
+unfolding after gives opening_of link_of opening_number_of opening_by_number stored link_number_of link_stored link_by_number first_of has emptied in_order_of every count_from ahead counter_at_of not_before_of total_with_of slide_of open_slide_of place_of clock_in_range touch_over climb
 itself_taken = refl
 
 pub not_reaching : Table reaching → ⊥
@@ -204,7 +205,7 @@ unfolding of_slides ahead counter_at_of not_before_of total_with_of slide_of ope
 chained_linked = chained_one (here (along refl refl))
 
 not_stored : (joined_of (after forgetful start linked).book 1 2).yes ≡ false
-unfolding after gives where_done opening_of link_of clock_of joined_of opening_number_of opening_by_number stored link_number_of link_stored link_by_number clock_number_of clock_by_number parent_steps parent_steps_at step_links four_walks joined_number_of joined_by_number first_of has cleared emptied stayed backward_of turned moved_by_chunk moved_book in_order_of_lem links_at chunk_links united united_all every count_from ahead counter_at_of not_before_of total_with_of slide_of open_slide_of place_of moved_to clock_in_range lorry_cell_over touch_over climb chains
+unfolding after gives where_done opening_of link_of clock_of joined_of opening_number_of opening_by_number stored link_number_of link_stored link_by_number clock_number_of clock_by_number parent_steps parent_steps_at step_links four_walks joined_number_of joined_by_number first_of has cleared emptied stayed backward_of turned moved_by_chunk moved_book in_order_of links_at chunk_links united united_all every count_from ahead counter_at_of not_before_of total_with_of slide_of open_slide_of place_of moved_to clock_in_range lorry_cell_over touch_over climb chains
 not_stored = refl
 
 pub not_forgetful : Joined forgetful → ⊥
@@ -225,7 +226,7 @@ unfolding of_slides ahead counter_at_of not_before_of total_with_of slide_of ope
 chained_then = chained_one (here (along refl refl))
 
 idle_then : (joined_of (after idle start p11_calls).book 4 5).yes ≡ false
-unfolding calls_of after gives where_done opening_of link_of clock_of joined_of opening_number_of opening_by_number stored link_number_of link_stored link_by_number clock_number_of clock_by_number parent_steps parent_steps_at step_links four_walks joined_number_of joined_by_number first_of has cleared emptied stayed backward_of turned moved_by_chunk moved_book in_order_of_lem links_at chunk_links united united_all every count_from ahead counter_at_of not_before_of total_with_of slide_of open_slide_of place_of moved_to clock_in_range lorry_cell_over touch_over climb chains
+unfolding calls_of after gives where_done opening_of link_of clock_of joined_of opening_number_of opening_by_number stored link_number_of link_stored link_by_number clock_number_of clock_by_number parent_steps parent_steps_at step_links four_walks joined_number_of joined_by_number first_of has cleared emptied stayed backward_of turned moved_by_chunk moved_book in_order_of links_at chunk_links united united_all every count_from ahead counter_at_of not_before_of total_with_of slide_of open_slide_of place_of moved_to clock_in_range lorry_cell_over touch_over climb chains
 idle_then = refl
 
 pub not_idle : Joined idle → ⊥
@@ -241,7 +242,7 @@ unfolding history_from one_more_of first_by_number first_of has
 told_near_end = refl
 
 end_refused : (gives turnless (after turnless start (opening near_end ∷ [])) (clock 4)).number ≡ 4
-unfolding after gives where_done opening_of clock_of opening_number_of opening_by_number clock_number_of clock_by_number first_of has emptied in_order_of_lem every count_from ahead counter_at_of not_before_of total_with_of clock_in_range climb
+unfolding after gives where_done opening_of clock_of opening_number_of opening_by_number clock_number_of clock_by_number first_of has emptied in_order_of every count_from ahead counter_at_of not_before_of total_with_of clock_in_range climb
 end_refused = refl
 
 not_early : TooEarly (begun near_end) 4 → ⊥
@@ -264,7 +265,7 @@ unfolding history_from one_more_of first_by_number first_of has number_in added_
 told_round = refl
 
 short_round : (after short_total start turn_calls).book.clock.total ≡ 10
-unfolding after gives where_done opening_of clock_of opening_number_of opening_by_number clock_number_of clock_by_number first_of has cleared emptied stayed backward_of turned moved_by_chunk moved_book in_order_of_lem links_at chunk_links united united_all every count_from ahead counter_at_of not_before_of total_with_of slide_of open_slide_of place_of moved_to clock_in_range climb
+unfolding after gives where_done opening_of clock_of opening_number_of opening_by_number clock_number_of clock_by_number first_of has cleared emptied stayed backward_of turned moved_by_chunk moved_book in_order_of links_at chunk_links united united_all every count_from ahead counter_at_of not_before_of total_with_of slide_of open_slide_of place_of moved_to clock_in_range climb
 short_round = refl
 
 sum_round : total_in turned_round ≡ 4294967306
@@ -378,12 +379,12 @@ held_2 = ((window_is start linked once told_linked).linked 2 1).1 (linked_sym li
 lights_2 : lights (held_links (after ours start linked)) bare (right_zone sectors) 2 ≡ true
 lights_2 = rw (right_2, linked_end _ 2 1 held_2, no_body (held_links (after ours start linked)) 2)
 
-from_above : (t : ℕ → Bool) (count : ℕ) {c : ℕ} → c < count → t c ≡ true → c ≤ (lamp_below t count).cell
+from_above : (t : ℕ → Bool) (count : ℕ) {c : ℕ} → c < count → t c ≡ true → c ≤ unwrap_or (lamp_below t count) 0
 unfolding lamp_below
 from_above t zero h e = absurd (omega arith)
 from_above t (suc n) {c} h e = go (t n) refl (λ below. from_above t n below e)
   where
-    go : (b : Bool) → t n ≡ b → (c < n → c ≤ (lamp_below t n).cell) → c ≤ (cond b (record { cell = n; lit = true }) (lamp_below t n)).cell
+    go : (b : Bool) → t n ≡ b → (c < n → c ≤ unwrap_or (lamp_below t n) 0) → c ≤ unwrap_or (cond b (Some n) (lamp_below t n)) 0
     go true p later = omega arith
     go false p later = elim (ℕ_discrete c n) [
       | yes is ↦ absurd (false≢true (sym p ∙ sym (ap t is) ∙ e))

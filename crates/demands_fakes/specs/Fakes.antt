@@ -1,6 +1,6 @@
 -- The builds that must be shut out (RULES 10.5), as implementations. Each differs from ours by its one fault and by nothing else:
 -- where a call of ours is refused, the fake refuses it with the same number, but for the one whose fault is that it takes it.
-use Rattle.std.specs.Prelude.{ℕ, zero, suc, ◌%◌, Bool, true, false, cond, not, ◌&&◌, List, ◌++◌, eqb, ltb, length, drop}
+use Rattle.std.specs.Prelude.{ℕ, zero, suc, ◌%◌, Bool, false, cond, not, ◌&&◌, List, ◌++◌, eqb, ltb, length, drop, Option, Some, None, Ok}
 use Rattle.numbers.specs.Kinds.{Bytes, Cell, Log, Number}
 use Rattle.graph.specs.Link.{Link}
 use Rattle.cells.specs.Cell.{sectors}
@@ -16,11 +16,10 @@ use Rattle.book.specs.Calls.{Outcome, opening_of, link_by_number, link_of, clock
 use Rattle.chain.specs.declared.ChainAnswer.{ChainAnswer}
 use Rattle.chain.specs.Chain.{ChainOutcome, chain_of}
 use Rattle.window_ends.specs.Ends.{is_end, links_in}
-use Rattle.lamps.specs.declared.Lamp.{Lamp}
 use Rattle.lamps.specs.declared.LampsAnswer.{LampsAnswer}
 use Rattle.lamps.specs.Mask.{is_body}
 use Rattle.lamps.specs.Zones.{Zone, left_zone, right_zone, in_zone_of}
-use Rattle.lamps.specs.Lamps.{on_body, lights, lamp_from, lamps_of}
+use Rattle.lamps.specs.Lamps.{on_body, lights, lamp_from, told, lamps_of}
 use Rattle.demands.specs.Implementation.{Implementation}
 
 -- the fault where ours gives 0, and what ours gives otherwise
@@ -180,18 +179,15 @@ with_lamps fault =
     }
 
 -- both lamps, each by its zone
-abbrev pub both_lamps : (lamp : Zone → Lamp) → LampsAnswer
-both_lamps lamp =
-    let left : Lamp = lamp (left_zone sectors) in
-    let right : Lamp = lamp (right_zone sectors) in
-    record { left_cell = left.cell; right_cell = right.cell; left = left.lit; right = right.lit; number = 0 }
+abbrev pub both_lamps : (lamp : Zone → Option Cell) → LampsAnswer
+both_lamps lamp = told (Ok (record { left = lamp (left_zone sectors); right = lamp (right_zone sectors) }))
 
 abbrev pub always_dark : LampsFault
-always_dark links mask o = both_lamps λ zone. record { cell = 0; lit = false }
+always_dark links mask o = both_lamps λ zone. None
 
 -- by the smallest cell of the zone
 abbrev pub always_lit : LampsFault
-always_lit links mask o = both_lamps λ zone. record { cell = zone.from; lit = true }
+always_lit links mask o = both_lamps λ zone. Some zone.from
 
 -- left for right, and right for left
 abbrev pub swapped : LampsFault
@@ -206,9 +202,9 @@ abbrev pub unlinked : LampsFault
 unlinked links mask o = both_lamps λ zone. lamp_from (λ c. in_zone_of sectors zone c && not (on_body links mask c)) 0 cells
 
 -- of `count` cells the largest that passes
-unfoldable pub lamp_below : (test : Cell → Bool) (count : ℕ) → Lamp
-lamp_below test zero = record { cell = 0; lit = false }
-lamp_below test (suc c) = cond (test c) (record { cell = c; lit = true }) (lamp_below test c)
+unfoldable pub lamp_below : (test : Cell → Bool) (count : ℕ) → Option Cell
+lamp_below test zero = None
+lamp_below test (suc c) = cond (test c) (Some c) (lamp_below test c)
 
 -- a lit lamp tells the largest cell
 abbrev pub largest : LampsFault

@@ -59,8 +59,10 @@ module _ (up : ℕ → ℕ) (limit cell : ℕ) where
   stays r e s = over r (climb_stays up _ _ (sym e ∙ s))
 
   pub ended : {at steps : ℕ} → Reached up limit cell at steps → limit ≤ steps
-      → record { root = at; steps = steps } ≡ walked (climb up limit cell)
-  ended {at} {steps} r h = over r (rw (let z : limit - steps ≡ 0 = omega arith in z) (climb_none up at))
+      → record { root = at; steps = limit } ≡ walked (climb up limit cell)
+  ended {at} {steps} r h =
+      let last : steps ≡ limit = omega arith in
+      rw last at (over r (rw (let z : limit - steps ≡ 0 = omega arith in z) (climb_none up at)))
 
   pub goes : {at next steps : ℕ} → Reached up limit cell at steps → next ≡ up at → (next ≡ at → ⊥) → steps < limit
       → Reached up limit cell next (steps + 1)

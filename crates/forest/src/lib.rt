@@ -19,13 +19,7 @@ pub struct Walk {
 pub fn fresh_parents() -> [u16; PLACES]
     ensures { result ≡ fresh_parents_of places }
 {
-    let mut parent = [0u16; PLACES];
-    let mut cell = 0;
-    while cell < PLACES {
-        parent[cell] = cell as u16;
-        cell += 1;
-    }
-    parent
+    std::array::from_fn(|cell| cell as u16)
 }
 
 // Its sizes: each tree has one cell.

@@ -4,7 +4,8 @@
 -- forest's root of each cell under it, before the link and after it.
 use Prim.Native.Nat.{ℕ, ◌<◌, min, max}
 use mathlib.Core.Path.{◌≡◌, refl, sym, ap, ◌∙◌}
-use mathlib.Core.Bool.{Bool, true, false, cond}
+use mathlib.Core.Bool.{Bool, true, false}
+use Rattle.std.specs.Prelude.{Option, Some}
 use mathlib.Core.List.{List, [], ◌∷◌}
 use mathlib.Core.Logic.{◌⊎◌, inl, inr, ⊎_elim}
 use native.Mathlib.Omega.{arith}
@@ -20,16 +21,17 @@ use Rattle.graph.proofs.Forests.{same_root, walk_ends}
 use Rattle.forest.specs.Arrays.{places, parent_in, size_in, fresh_parents_of}
 use Rattle.forest.proofs.Climb.{climb_stays}
 use Rattle.forest.proofs.Fill.{length_count_from, get_d_count_from}
-use Rattle.forest_unite.specs.United.{under, merge_of_roots_of, merge_of_lem, merged_parents, merged_sizes, merged_labels}
+use Rattle.forest_unite.specs.United.{under, merge_of_roots_of, merged_parents}
 use Rattle.forest_unite.specs.declared.Merge.{Merge}
-use Rattle.book_state.specs.Arrays.{cells, step_limit, Arrays, arrays_of, fresh_arrays, united, united_all}
+use Rattle.book_state.specs.Arrays.{cells, step_limit, Arrays, fresh_arrays, merged_arrays, united, united_all}
 use Rattle.book_state.specs.Log.{labelled}
 use Rattle.book_state.proofs.Built.{Holds, holds_all}
 use Rattle.forest_scratch.specs.declared.Roots.{Roots}
 use Rattle.forest_scratch.specs.Scratch.{Descends, both_of, roots_of, join_of, Root, Stands, RootOf}
 use Rattle.forest_scratch.proofs.Standing.{stands_fresh, sides}
 use Rattle.forest_scratch.proofs.Joined as scratch
-use Rattle.forest_beside.specs.Beside.{root_in, links_of, Beside, tops_of}
+use Rattle.forest_beside.specs.declared.Scratch.{Scratch}
+use Rattle.forest_beside.specs.Beside.{root_in, links_of, Beside, topped, tops_of}
 
 -- ---- what the forest's roots say
 
@@ -61,24 +63,30 @@ module _ {xs : List Labelled} {a : Arrays} (ends : EndsBelow cells xs) (built : 
 
 -- ---- who merges under whom
 
--- what merged leaves: the top is a root still, and every root that is neither of the two
-record MergeFacts (ps : List ℕ) (r s : ℕ) (h : Merge) : Type 0 where
-  pub which : h.top ≡ r ⊎ h.top ≡ s
-  pub top_stays : parent_in (merged_parents ps h) h.top ≡ h.top
-  pub others : (c : ℕ) → (c ≡ r → ⊥) → (c ≡ s → ⊥) → parent_in ps c ≡ c → parent_in (merged_parents ps h) c ≡ c
+-- two different roots are merged: the top is a root still, and so is every root that is neither of the two
+record Merges (ps ss : List ℕ) (r s : ℕ) : Type 0 where
+  pub merge : Merge
+  pub is : merge_of_roots_of ss r s ≡ Some merge
+  pub which : merge.top ≡ r ⊎ merge.top ≡ s
+  pub top_stays : parent_in (merged_parents ps (Some merge)) merge.top ≡ merge.top
+  pub others : (c : ℕ) → (c ≡ r → ⊥) → (c ≡ s → ⊥) → parent_in ps c ≡ c → parent_in (merged_parents ps (Some merge)) c ≡ c
 
-merge_facts : (ps ss : List ℕ) (r s : ℕ) → (r ≡ s → ⊥) → parent_in ps r ≡ r → parent_in ps s ≡ s → MergeFacts ps r s (merge_of_roots_of ss r s)
-merge_facts ps ss r s n p q = rw (ne_eqb r s n) (go (goes_under_of (size_in ss) r s))
+merges : (ps ss : List ℕ) (r s : ℕ) → (r ≡ s → ⊥) → parent_in ps r ≡ r → parent_in ps s ≡ s → Merges ps ss r s
+merges ps ss r s n p q = go (goes_under_of (size_in ss) r s) refl
   where
-    go : (t : Bool) → MergeFacts ps r s (cond t (under ss r s) (under ss s r))
-    go true =
+    go : (t : Bool) → goes_under_of (size_in ss) r s ≡ t → Merges ps ss r s
+    go true e =
         record {
+          merge = under ss r s;
+          is = simp (ne_eqb r s n, e);
           which = inr refl;
           top_stays = get_or-set_other ps r s s s (λ e. n (sym e)) ∙ q;
           others = λ c x y z. get_or-set_other ps r c s c x ∙ z;
         }
-    go false =
+    go false e =
         record {
+          merge = under ss s r;
+          is = simp (ne_eqb r s n, e);
           which = inl refl;
           top_stays = get_or-set_other ps s r r r n ∙ p;
           others = λ c x y z. get_or-set_other ps s c r c y ∙ z;
@@ -87,7 +95,7 @@ merge_facts ps ss r s n p q = rw (ne_eqb r s n) (go (goes_under_of (size_in ss) 
 -- ---- one link more
 
 -- fresh arrays, and copies of their parents
-pub beside_fresh : {a : Arrays} → a ≡ fresh_arrays → Beside a a.parents a.parents
+pub beside_fresh : {a : Arrays} → a ≡ fresh_arrays → Beside a (record { parents = a.parents; tops = a.parents })
 unfolding united_all group
 beside_fresh {a} e =
     record {
@@ -102,7 +110,13 @@ beside_fresh {a} e =
           get_d_count_from 0 places c 0 h ∙ zero-add c ∙ sym (ap (λ w. w.root) (climb_stays (parent_in (fresh_parents_of places)) step_limit c r)));
     }
 
-module _ {a : Arrays} {qs ts : List ℕ} (s : Beside a qs ts) {one other : ℕ} (cell : (one < cells) × (other < cells)) (label : ℕ) where
+module _ {a : Arrays} {w : Scratch} (s : Beside a w) {one other : ℕ} (cell : (one < cells) × (other < cells)) (label : ℕ) where
+  abbrev qs : List ℕ
+  qs = w.parents
+
+  abbrev ts : List ℕ
+  ts = w.tops
+
   abbrev link : Link
   link = record { one = one; other = other }
 
@@ -176,16 +190,20 @@ module _ {a : Arrays} {qs ts : List ℕ} (s : Beside a qs ts) {one other : ℕ} 
 
   -- they have different roots, and one goes under the other
   module _ (differ : u ≡ v → ⊥) where
-    abbrev h : Merge
-    h = merge_of_lem a.parents a.sizes step_limit one other
-
     apart : root_in a one ≡ root_in a other → ⊥
     apart e = differ (scratch.roots_one down cell s.stands (unkeyed one other e))
 
-    facts : MergeFacts a.parents (root_in a one) (root_in a other) h
-    facts =
-        merge_facts a.parents a.sizes (root_in a one) (root_in a other) apart (root_stays s.ends s.built one)
+    abbrev made : Merges a.parents a.sizes (root_in a one) (root_in a other)
+    made =
+        merges a.parents a.sizes (root_in a one) (root_in a other) apart (root_stays s.ends s.built one)
         (root_stays s.ends s.built other)
+
+    abbrev h : Merge
+    h = made.merge
+
+    parents_more : (united a x).parents ≡ merged_parents a.parents (Some h)
+    unfolding united
+    parents_more = ap (merged_parents a.parents) made.is
 
     -- a root of the forest after the link is where the walks of its cells end
     ends_at : (c r : ℕ) → parent_in (united a x).parents r ≡ r → Chained (links_of (x ∷ s.done)) c r → r ≡ root_in (united a x) c
@@ -194,7 +212,7 @@ module _ {a : Arrays} {qs ts : List ℕ} (s : Beside a qs ts) {one other : ℕ} 
 
     -- the top is chained with both
     top_chained : Chained (links_of (x ∷ s.done)) one h.top
-    top_chained = ⊎_elim (λ e. rw e (at one)) (λ e. rw e (chained_trans (chained_one (here (along refl refl))) (at other))) facts.which
+    top_chained = ⊎_elim (λ e. rw e (at one)) (λ e. rw e (chained_trans (chained_one (here (along refl refl))) (at other))) made.which
       where
         at : (c : ℕ) → Chained (links_of (x ∷ s.done)) c (root_in a c)
         at c = chained_there link (chained_root s.ends s.built c)
@@ -210,13 +228,12 @@ module _ {a : Arrays} {qs ts : List ℕ} (s : Beside a qs ts) {one other : ℕ} 
         by (against p q) = rw (← p) (old left_root.one_key)
 
     tops_more : (c : ℕ) → c < cells → Root (set ps (max u v) (min u v)) c → get_or (set ts (min u v) h.top) c 0 ≡ root_in (united a x) c
-    unfolding united
     tops_more c below r = go (ℕ_discrete c (min u v)) (ℕ_discrete c (max u v))
       where
         go : Dec (c ≡ min u v) → Dec (c ≡ max u v) → get_or (set ts (min u v) h.top) c 0 ≡ root_in (united a x) c
         go (yes e) d =
             rw (e, get_or-set_same ts (min u v) h.top 0 (rw s.long (omega (arith, u_inside, v_inside))))
-            (ends_at (min u v) h.top facts.top_stays (chained_trans min_chained top_chained))
+            (ends_at (min u v) h.top (rw parents_more made.top_stays) (chained_trans min_chained top_chained))
         go (no n) (yes e) =
             absurd (n (e ∙ sym (rw e at r) ∙ get_or-set_same ps (max u v) (min u v) (max u v) (rw at_both.falls.long (omega (arith, u_inside, v_inside)))))
         go (no n) (no m) =
@@ -225,8 +242,8 @@ module _ {a : Arrays} {qs ts : List ℕ} (s : Beside a qs ts) {one other : ℕ} 
             let not_v : (c ≡ v → ⊥) = λ e. by (sides u v) (inr e) in
             get_or-set_other ts (min u v) c h.top 0 n ∙ tops_both c below root
             ∙ ends_at c (root_in a c)
-            (facts.others (root_in a c) (λ e. not_u (at_both.apart c u root left_root.root (unkeyed c one e ∙ sym left_root.one_key)))
-            (λ e. not_v (at_both.apart c v root right_root.root (unkeyed c other e ∙ sym right_root.one_key))) (root_stays s.ends s.built c))
+            (rw parents_more (made.others (root_in a c) (λ e. not_u (at_both.apart c u root left_root.root (unkeyed c one e ∙ sym left_root.one_key)))
+            (λ e. not_v (at_both.apart c v root right_root.root (unkeyed c other e ∙ sym right_root.one_key))) (root_stays s.ends s.built c)))
             (chained_there link (chained_root s.ends s.built c))
           where
             by : Between (max u v) (min u v) (record { one = u; other = v }) → c ≡ u ⊎ c ≡ v → ⊥
@@ -235,18 +252,26 @@ module _ {a : Arrays} {qs ts : List ℕ} (s : Beside a qs ts) {one other : ℕ} 
             by (against p q) (inl e) = n (e ∙ p)
             by (against p q) (inr e) = m (e ∙ q)
 
-  pub beside_united : Beside (united a x) (join_of qs one other) (tops_of a qs ts one other)
-  beside_united =
-      record { done = x ∷ s.done; ends = ends_more; built = built_more; stands = stands_more; long = go.0; tops = go.1 }
+  pub beside_united : {a' : Arrays} {w' : Scratch} → a' ≡ united a x → w'.parents ≡ join_of qs one other → w'.tops ≡ tops_of a w one other
+      → Beside a' w'
+  beside_united e p t =
+      record {
+        done = x ∷ s.done;
+        ends = ends_more;
+        built = rw e built_more;
+        stands = rw p stands_more;
+        long = rw t go.0;
+        tops = rw (e, p, t) go.1;
+      }
     where
-      go : (length (tops_of a qs ts one other) ≡ cells)
-          × ((c : ℕ) → c < cells → Root (join_of qs one other) c → get_or (tops_of a qs ts one other) c 0 ≡ root_in (united a x) c)
+      go : (length (tops_of a w one other) ≡ cells)
+          × ((c : ℕ) → c < cells → Root (join_of qs one other) c → get_or (tops_of a w one other) c 0 ≡ root_in (united a x) c)
       go = by (ℕ_discrete u v)
         where
-          by : Dec (u ≡ v) → (length (tops_of a qs ts one other) ≡ cells)
-              × ((c : ℕ) → c < cells → Root (join_of qs one other) c → get_or (tops_of a qs ts one other) c 0 ≡ root_in (united a x) c)
+          by : Dec (u ≡ v) → (length (tops_of a w one other) ≡ cells)
+              × ((c : ℕ) → c < cells → Root (join_of qs one other) c → get_or (tops_of a w one other) c 0 ≡ root_in (united a x) c)
           by (yes e) = rw (eq-eqb u v e) (s.long, λ c below r. tops_both c below r ∙ ap (λ b. root_in b c) (stays e))
-          by (no n) = rw (ne_eqb u v n) (length-set ts (min u v) (h n).top ∙ s.long, tops_more n)
+          by (no n) = rw (ne_eqb u v n, (made n).is) (length-set ts (min u v) (h n).top ∙ s.long, tops_more n)
 
   -- ---- as the code leaves it
 
@@ -254,19 +279,12 @@ module _ {a : Arrays} {qs ts : List ℕ} (s : Beside a qs ts) {one other : ℕ} 
     pub roots_inside : (r.one < places) × (r.other < places)
     roots_inside = rw is (u_inside, v_inside)
 
-    pub least_inside : min r.one r.other < places
-    least_inside = omega (arith, roots_inside.0)
-
-    pub same_made : r.one ≡ r.other → (a ≡ united a x) × (ts ≡ tops_of a qs ts one other)
+    pub same_made : r.one ≡ r.other → (a ≡ united a x) × (ts ≡ tops_of a w one other)
     same_made e = let same : u ≡ v = rw is at e in (stays same, rw (eq-eqb u v same))
 
-    pub apart_made : (r.one ≡ r.other → ⊥) → {merge : Merge} {parents sizes labels : List ℕ} {top : ℕ}
-        → merge ≡ merge_of_roots_of a.sizes (get_or ts r.one 0) (get_or ts r.other 0)
-        → parents ≡ merged_parents a.parents merge → sizes ≡ merged_sizes a.sizes merge → labels ≡ merged_labels a.labels merge label
-        → top ≡ min r.one r.other
-        → (arrays_of parents sizes labels ≡ united a x) × (set ts top merge.top ≡ tops_of a qs ts one other)
+    pub apart_made : (r.one ≡ r.other → ⊥) → {merge : Option Merge} → merge ≡ merge_of_roots_of a.sizes (get_or ts r.one 0) (get_or ts r.other 0)
+        → (merged_arrays a label merge ≡ united a x) × (topped ts (min r.one r.other) merge ≡ tops_of a w one other)
     unfolding united
-    apart_made n {merge} m p q l t =
+    apart_made n m =
         let differ : (u ≡ v → ⊥) = rw is at n in
-        let e : merge ≡ h differ = m ∙ rw (is, top_one, top_other) in
-        (rw (p, q, l, e), rw (t, e, is, ne_eqb u v differ))
+        rw (m, is, top_one, top_other, ne_eqb u v differ) (refl, refl)

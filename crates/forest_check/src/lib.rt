@@ -6,33 +6,22 @@
 // machine can do several entries at a time.
 #![tactic(auto)]
 
-ghost use Rattle.std.specs.Prelude.{◌≡◌, cond, ◌&&◌, ◌-◌, ◌*◌, ◌^◌, ◌≤◌, ◌<◌, eqb, leb, ltb, length};
+ghost use Rattle.std.specs.Prelude.{◌≡◌, cond, ◌&&◌, ◌-◌, ◌*◌, ◌^◌, ◌≤◌, ◌<◌, eqb, leb, length};
 ghost use Rattle.forest.specs.Arrays.{places, parent_in};
 ghost use Rattle.forest_check.specs.Sound.{every, within, ends, ends_from_of, Comparable, Above, doubles_at, sound_of, labels_within_of};
 
 use forest::PLACES;
 use forest_walk::root;
 
-// Whether the arrays are a forest's, with no walk over `limit` steps.
-pub fn sound<'a>(parent: &'a [u16], size: &'a [u16], limit: u8) -> bool
+// Whether the arrays are a forest's, with no walk over `limit` steps. Each is lent for itself: in a book each is a field of its own.
+pub fn sound(parent: &[u16], size: &[u16], limit: u8) -> bool
     ensures { result ≡ sound_of parent.now size.now limit }
 {
     let cells = parent.len();
-    if size.len() != cells {
-        return false;
-    }
-    if !all_within(parent, 0, cells) {
-        return false;
-    }
-    if !all_within(size, 1, cells + 1) {
-        return false;
-    }
-    if reaches(limit, cells) {
-        if doubles(parent, size) {
-            return true;
-        }
-    }
-    walks_end(parent, limit)
+    size.len() == cells
+        && all_within(parent, 0, cells)
+        && all_within(size, 1, cells + 1)
+        && ((reaches(limit, cells) && doubles(parent, size)) || walks_end(parent, limit))
 }
 
 // Whether each label is at most the bound.
@@ -40,12 +29,8 @@ pub fn labels_within(label: &[u8], bound: u8) -> bool
     ensures { result ≡ labels_within_of label.now bound }
 {
     let mut fine = true;
-    let mut i = 0;
-    while i < label.len() {
-        if bound < label[i] {
-            fine = false;
-        }
-        i += 1;
+    for x in label {
+        fine &= *x <= bound;
     }
     fine
 }
@@ -54,22 +39,16 @@ pub fn labels_within(label: &[u8], bound: u8) -> bool
 pub fn all_within(numbers: &[u16], low: usize, end: usize) -> bool
     ensures { result ≡ every (within low end) 0 numbers.now }
 {
-    if numbers.len() == 0 {
+    let Some(first) = numbers.first() else {
         return true;
+    };
+    let mut least = *first;
+    let mut greatest = *first;
+    for x in numbers {
+        least = least.min(*x);
+        greatest = greatest.max(*x);
     }
-    let mut least = numbers[0];
-    let mut greatest = least;
-    let mut i = 0;
-    while i < numbers.len() {
-        let x = numbers[i];
-        least = smaller(least, x);
-        greatest = larger(greatest, x);
-        i += 1;
-    }
-    if wide(least) < low {
-        return false;
-    }
-    wide(greatest) < end
+    low <= usize::from(least) && usize::from(greatest) < end
 }
 
 // Whether sizes can tell: a walk of `limit` steps, each of which doubles a size, reaches the size `cells`, and there are no more
@@ -77,73 +56,48 @@ pub fn all_within(numbers: &[u16], low: usize, end: usize) -> bool
 fn reaches(limit: u8, cells: usize) -> bool
     ensures { result ≡ (leb cells places && leb cells (2 ^ limit)) }
 {
-    if PLACES < cells {
-        return false;
-    }
-    if limit < 64 {
-        let top = 1usize << limit;
-        return cells <= top;
-    }
-    true
+    cells <= PLACES && (limit >= 64 || cells <= 1 << limit)
 }
 
 // Whether each cell's size but a root's is at most half its parent's: none lacks anything.
-fn doubles<'a>(parent: &'a [u16], size: &'a [u16]) -> bool
+fn doubles(parent: &[u16], size: &[u16]) -> bool
     requires { Comparable parent.now size.now }
     ensures { result ≡ every (doubles_at size.now) 0 parent.now }
 {
     let above = sizes_above(parent, size);
     let mut lacking = 0;
-    let mut i = 0;
-    while i < parent.len() {
-        lacking = larger(lacking, lack(i as u16, parent[i], size[i], above[i]));
-        i += 1;
+    for i in 0..parent.len() {
+        lacking = lacking.max(lack(i as u16, parent[i], size[i], above[i]));
     }
     lacking == 0
 }
 
 // The size of each cell's parent. They are gathered first, one by one, so that the comparison has no place to look up.
-fn sizes_above<'a>(parent: &'a [u16], size: &'a [u16]) -> [u16; PLACES]
+fn sizes_above(parent: &[u16], size: &[u16]) -> [u16; PLACES]
     requires { Comparable parent.now size.now }
     ensures { Above parent.now size.now result }
 {
-    let mut above = [0u16; PLACES];
-    let mut i = 0;
-    while i < parent.len() {
-        let up = parent[i] as usize;
-        above[i] = size[up];
-        i += 1;
+    let mut above = [0; PLACES];
+    for (i, up) in parent.iter().enumerate() {
+        above[i] = size[usize::from(*up)];
     }
     above
 }
 
-// What the size above a cell lacks of twice its own; a root lacks nothing.
+// What the size above a cell lacks of twice its own; a root lacks nothing. The difference is taken of a root too, so that the pass has no branch.
 fn lack(cell: u16, up: u16, own: u16, above: u16) -> u16
     requires { own ≤ places }
     ensures { result ≡ cond (eqb up cell) 0 (2 * own - above) }
 {
-    if up == cell {
-        return 0;
-    }
-    let least = 2 * own;
-    if least <= above {
-        return 0;
-    }
-    least - above
+    let short = (2 * own).saturating_sub(above);
+    if up == cell { 0 } else { short }
 }
 
 // Whether every cell's walk ends.
 fn walks_end(parent: &[u16], limit: u8) -> bool
     ensures { result ≡ every (ends_from_of parent.now limit) 0 parent.now }
 {
-    let mut i = 0;
-    while i < parent.len() {
-        if !ends_from(parent, limit, i) {
-            return false;
-        }
-        i += 1;
-    }
-    true
+    (0..parent.len()).all(|cell| ends_from(parent, limit, cell))
 }
 
 // Whether the cell's walk ends: at a root it does, and elsewhere where the walk from its parent does, with a step less.
@@ -152,34 +106,12 @@ fn ends_from(parent: &[u16], limit: u8, cell: usize) -> bool
     ensures { result ≡ ends (parent_in parent.now) limit cell }
 {
     let above = parent[cell];
-    if wide(above) == cell {
-        return true;
-    }
-    if limit == 0 {
-        return false;
-    }
-    let end = root(parent, limit - 1, above);
-    // The walk has ended where one step more stays.
-    root(parent, 1, end) == end
+    usize::from(above) == cell || (limit != 0 && stays(parent, root(parent, limit - 1, above)))
 }
 
-// The number in the width of a length.
-fn wide(x: u16) -> usize
-    ensures { result ≡ x }
+// Whether the cell is a root: a walk that has come to one has ended.
+fn stays(parent: &[u16], cell: u16) -> bool
+    ensures { result ≡ eqb (parent_in parent.now cell) cell }
 {
-    x as usize
-}
-
-// The smaller of two.
-fn smaller(a: u16, b: u16) -> u16
-    ensures { result ≡ cond (ltb b a) b a }
-{
-    if b < a { b } else { a }
-}
-
-// The larger of two.
-fn larger(a: u16, b: u16) -> u16
-    ensures { result ≡ cond (ltb a b) b a }
-{
-    if a < b { b } else { a }
+    root(parent, 1, cell) == cell
 }

@@ -4,7 +4,7 @@
 -- cells of the group, those before `cell` in the list have been passed, that is, met on the other side (`Passing`, `Walked`). A turn that calls
 -- nothing is a turn like the others: where the shared group has its mark, nothing done is a crossing (`crossed_already`).
 -- Where the loop ends, the whole group has been passed, so the group's mark and the loop are the crossing (`passed_all`).
-use Prim.Native.Nat.{ℕ, ◌<◌, ◌≤◌, ◌+◌, ◌-◌}
+use Prim.Native.Nat.{ℕ, ◌<◌, ◌≤◌, ◌+◌}
 use mathlib.Core.Path.{◌≡◌, refl, sym, ◌∙◌}
 use mathlib.Core.List.{List}
 use mathlib.Core.Logic.{◌⊎◌, inl, inr, ⊎_elim}
@@ -13,9 +13,10 @@ use native.Mathlib.Nat.{le_refl, pos_of_ne-zero}
 use native.Mathlib.Omega.{arith}
 use lib.ListN.{length, get_or, set, length-set}
 use lib.Seq.{get_or-set_same, get_or-set_other}
+use Rattle.forest.specs.Arrays.{places}
 use Rattle.forest_cross.specs.Across.{Across, here, by_backward, by_forward}
-use Rattle.forest_cross.specs.Marks.{OneSide, BothSides, MayEnter, Marked, Met, Reached, MarksGrown, Crossed}
-use Rattle.forest_cross.proofs.Walk.{place_in, Walked, walk_begins, walk_on, walk_ends, walked_map, place_rises, place_most}
+use Rattle.forest_cross.specs.Marks.{OneSide, MayEnter, Marked, Met, Reached, MarksGrown, Crossed}
+use Rattle.forest_cross.proofs.Walk.{Walked, walk_begins, walk_on, walk_ends, walked_map}
 use Rattle.forest_cross.proofs.Unmarked.{unmarked, unmarked_kept, unmarked_less}
 
 -- a crossing that goes on from b, with the sides exchanged
@@ -42,17 +43,19 @@ grown_on on kept p q =
 pub crossed_already : {own other m o : List ℕ} {group : ℕ} → (get_or m group 0 ≡ 0 → ⊥) → Crossed own other group m o m o
 crossed_already ne = record { met = pos_of_ne-zero ne; own_grown = grown_none; other_grown = grown_none }
 
+-- both sides of a crossing, with a mark for each cell
+pub record BothSides (own next other other_next m o : List ℕ) : Type 0 where
+  pub own_side : OneSide own next
+  pub other_side : OneSide other other_next
+  pub own_marks : length m ≡ places
+  pub other_marks : length o ≡ places
+
+even : {own next other other_next m o : List ℕ} → BothSides own next other other_next m o → length other ≡ length own
+even s = s.other_side.long ∙ sym s.own_side.long
+
 -- the sides with other marks, as many
 remarked : {own next other other_next m o m₁ o₁ : List ℕ} → BothSides own next other other_next m o → length m₁ ≡ length m → length o₁ ≡ length o → BothSides own next other other_next m₁ o₁
-remarked s e f =
-    record {
-      own_side = side s.own_side e;
-      other_side = side s.other_side f;
-      even = s.even;
-    }
-  where
-    side : {keys next marks marks₁ : List ℕ} → OneSide keys next marks → length marks₁ ≡ length marks → OneSide keys next marks₁
-    side o e = record { keyed = o.keyed; rooted = o.rooted; listed = o.listed; marked = rw e o.marked }
+remarked s e f = record { own_side = s.own_side; other_side = s.other_side; own_marks = e ∙ s.own_marks; other_marks = f ∙ s.other_marks }
 
 module _ (marks : List ℕ) (group : ℕ) where
   -- one mark more loses none
@@ -79,7 +82,7 @@ module _ {t : ℕ} {own next other other_next : List ℕ} {group : ℕ} where
   -- the group is marked, and the loop begins at its root
   pub passing_begins : {m o : List ℕ} {cell : ℕ} → unmarked m + unmarked o ≡ t → BothSides own next other other_next m o → MayEnter own m group → cell ≡ group → Passing t own next other other_next group (set m group 1) o (set m group 1) o cell
   passing_begins {m} {o} {cell} e s b a =
-      let less = unmarked_less m group (omega (arith, s.own_side.marked, b.inside)) b.unmarked in
+      let less = unmarked_less m group (omega (arith, s.own_marks, s.own_side.long, b.inside)) b.unmarked in
       record {
         sides = remarked s (simp length-set) refl;
         fewer = omega arith;
@@ -91,29 +94,14 @@ module _ {t : ℕ} {own next other other_next : List ℕ} {group : ℕ} where
       }
 
   module _ {m₀ o₀ m o : List ℕ} {cell : ℕ} (p : Passing t own next other other_next group m₀ o₀ m o cell) where
-    -- the group of a cell on the other side
-    pub shared_inside : {c shared : ℕ} → c < length own → shared ≡ get_or other c 0 → shared < length other
-    shared_inside {c} h e = rw e (p.sides.other_side.keyed.inside c (omega (arith, p.sides.even)))
-
-    -- what a call on the other side asks
-    pub passing_asks : {c shared : ℕ} → c < length own → shared ≡ get_or other c 0 → get_or o shared 0 ≡ 0 → (unmarked o + unmarked m < t) × (BothSides other other_next own next o m × MayEnter other o shared)
-    passing_asks {c} h e f = (
-      omega (arith, p.fewer),
-      (
-        record { own_side = p.sides.other_side; other_side = p.sides.own_side; even = sym p.sides.even },
-        record { inside = shared_inside h e; root = rw e (p.sides.other_side.rooted c (omega (arith, p.sides.even))); unmarked = f },
-      ),
-    )
-
-    module _ (h : cell < length own) where
-      -- fewer places are left behind the next cell
-      pub nearer : {cell' : ℕ} → cell' ≡ get_or next cell 0 → length own + 1 - place_in group cell' < length own + 1 - place_in group cell
-      nearer a = omega (arith, place_rises p.sides.own_side.listed p.inside p.root h (p.walked.has h) a, place_most group cell)
+    module _ (h : cell < places) where
+      own_cell : cell < length own
+      own_cell = rw p.sides.own_side.long h
 
       module _ {shared : ℕ} {m₁ o₁ : List ℕ} (e : shared ≡ get_or other cell 0) (q : Crossed other own shared o m o₁ m₁) where
         reached_on : (c : ℕ) → Reached other own shared c → Reached own other group c
         reached_on c r a ha g =
-            across_on p.sides.even (by_backward (here refl) h (g ∙ sym (p.walked.has h))) (r cell (omega (arith, p.sides.even)) (sym e))
+            across_on (even p.sides) (by_backward (here refl) own_cell (g ∙ sym (p.walked.has own_cell))) (r cell (omega (arith, p.sides.other_side.long)) (sym e))
 
         -- the shared group has been crossed from: on to the next cell
         pub passing_turns : {cell' : ℕ} → cell' ≡ get_or next cell 0 → Passing t own next other other_next group m₀ o₀ m₁ o₁ cell'
@@ -126,17 +114,17 @@ module _ {t : ℕ} {own next other other_next : List ℕ} {group : ℕ} where
               fewer = omega (arith, p.fewer);
               inside = p.inside;
               root = p.root;
-              walked = walk_on p.sides.own_side.listed p.inside p.root h (p.walked.has h) a (walked_map (λ c. q.own_grown.kept _) p.walked) met;
+              walked = walk_on p.sides.own_side.listed p.inside p.root own_cell (p.walked.has own_cell) a (walked_map (λ c. q.own_grown.kept _) p.walked) met;
               own_grown = grown_on reached_on q.own_grown.kept p.own_grown q.other_grown;
               other_grown = grown_on reached_on q.other_grown.kept p.other_grown q.own_grown;
             }
 
   -- the loop ends
-  pub passed_all : {marks o₀ m o : List ℕ} {cell : ℕ} → Passing t own next other other_next group (set marks group 1) o₀ m o cell → length own ≤ cell → Crossed own other group marks o₀ m o
+  pub passed_all : {marks o₀ m o : List ℕ} {cell : ℕ} → Passing t own next other other_next group (set marks group 1) o₀ m o cell → places ≤ cell → Crossed own other group marks o₀ m o
   passed_all {marks} {o₀} {m} {o} {cell} p end =
       let s = p.own_grown in
       let long : length m ≡ length marks = s.long ∙ simp length-set in
-      let h : group < length marks = omega (arith, p.sides.own_side.marked, p.inside) in
+      let h : group < length marks = omega (arith, p.sides.own_marks, p.sides.own_side.long, p.inside) in
       let new : (c : ℕ) → Met own (set marks group 1) c → Met own marks c ⊎ (get_or own c 0 ≡ group) = λ c k. marks_new marks group _ k (ℕ_discrete (get_or own c 0) group) in
       record {
         met = s.kept group (rw (get_or-set_same marks group 1 0 h) (le_refl 1));
@@ -145,7 +133,7 @@ module _ {t : ℕ} {own next other other_next : List ℕ} {group : ℕ} where
               long = long;
               kept = λ g k. s.kept g (marks_kept marks group h g k (ℕ_discrete g group));
               reached = λ c hc k. ⊎_elim (λ b. ⊎_elim inl (λ e. inr (λ a ha g. by_backward (here refl) hc (g ∙ sym e))) (new c b)) inr (s.reached c hc k);
-              closed = λ c hc k. ⊎_elim (λ b. ⊎_elim inl (λ e. inr (walk_ends p.walked p.inside end c hc e)) (new c b)) inr (s.closed c hc k);
+              closed = λ c hc k. ⊎_elim (λ b. ⊎_elim inl (λ e. inr (walk_ends p.walked p.inside (omega (arith, p.sides.own_side.long)) c hc e)) (new c b)) inr (s.closed c hc k);
             };
         other_grown = p.other_grown;
       }

@@ -2,22 +2,16 @@
 -- said of an own and another side, so that it serves the backward and the forward groups alike.
 use Rattle.std.specs.Prelude.{ℕ, ◌<◌, ◌≤◌, ◌≡◌, ◌⊎◌, List, length, get_or}
 use Rattle.numbers.specs.Kinds.{Cell}
+use Rattle.forest.specs.Arrays.{places}
 use Rattle.forest_cross.specs.Across.{Across, KeysAreCells}
 use Rattle.forest_cross.specs.Groups.{ListedFrom}
 
--- what a crossing is lent of one side: each cell's key is a cell, and its own key; the cells of each key are listed, and each key has a
--- mark. The lists and the marks may have more places than there are cells
-pub record OneSide (keys next marks : List ℕ) : Type 0 where
+-- what a crossing is lent of one side: each cell's key is a cell, and its own key; and the cells of each key are listed
+pub record OneSide (keys next : List ℕ) : Type 0 where
+  pub long : length keys ≡ places
   pub keyed : KeysAreCells keys
   pub rooted : (c : ℕ) → c < length keys → get_or keys (get_or keys c 0) 0 ≡ get_or keys c 0
   pub listed : ListedFrom keys 0 next
-  pub marked : length keys ≤ length marks
-
--- both sides, of the same cells
-pub record BothSides (own next other other_next own_marks other_marks : List ℕ) : Type 0 where
-  pub own_side : OneSide own next own_marks
-  pub other_side : OneSide other other_next other_marks
-  pub even : length other ≡ length own
 
 -- a group may be entered: it is that of a root, and not marked yet
 pub record MayEnter (keys marks : List ℕ) (group : ℕ) : Type 0 where

@@ -3,24 +3,32 @@
 // listed behind their root.
 #![tactic(auto)]
 
-ghost use Rattle.std.specs.Prelude.{◌<◌, length};
-ghost use Rattle.forest.specs.Arrays.{places, fresh_labels_of, roots_of, roots_at_of};
+ghost use Rattle.std.specs.Prelude.{◌<◌};
+ghost use Rattle.forest.specs.Arrays.{places, roots_of, roots_at_of};
 ghost use Rattle.forest_cross.specs.Across.{JoinedAcross};
 ghost use Rattle.forest_cross.specs.Groups.{WalksEnd, NoneListed, Grouped, Crossable};
-ghost use Rattle.forest_cross.specs.Marks.{BothSides, MayEnter, Crossed};
+ghost use Rattle.forest_cross.specs.Marks.{OneSide, MayEnter, Crossed};
 
-use buckets::entry_at;
 use forest::{PLACES, fresh_parents};
 use forest_walk::{root_inside, up_inside};
 
 // Ends a list: the number of cells.
 const END: u16 = 1024;
 
+// One side of a crossing: of each cell the root of its tree, which is the key of its group, and the next cell of its group. It is passed by
+// value, as two addresses: behind a reference each cell of a crossing would look them up first.
+#[derive(Clone, Copy)]
+struct Side<'a> {
+    roots: &'a [u16; PLACES],
+    next: &'a [u16; PLACES],
+    ghost grouped: { OneSide roots.now next.now },
+}
+
 // Finds each cell's root and lists it behind that, in one pass from the last cell to the first. A cell that takes no step is a root
 // already: most cells are, and a pass over all of them is what a crossing costs.
-fn list_groups<'a>(
-    parent: &'a [u16],
-    label: &'a [u8],
+fn list_groups(
+    parent: &[u16],
+    label: &[u8],
     limit: u8,
     cut: u8,
     roots: &mut [u16; PLACES],
@@ -30,15 +38,13 @@ fn list_groups<'a>(
     requires none { NoneListed roots.old next.old }
     ensures { Grouped (roots_at_of parent.now label.now limit cut places) roots.new next.new }
 {
-    let mut cell = PLACES;
-    while 0 < cell {
-        cell -= 1;
+    for cell in (0..PLACES).rev() {
         let here = cell as u16;
         if up_inside(parent, label, cut, here) == here {
             continue;
         }
         let root = root_inside(parent, label, limit, cut, here);
-        let top = root as usize;
+        let top = usize::from(root);
         roots[cell] = root;
         next[cell] = next[top];
         next[top] = here;
@@ -49,99 +55,66 @@ fn list_groups<'a>(
 #[cycle(from_backward_from_forward)]
 fn from_backward(
     group: usize,
-    backward: &[u16],
-    backward_next: &[u16],
-    forward: &[u16],
-    forward_next: &[u16],
-    backward_marks: &mut [u8],
-    forward_marks: &mut [u8],
+    backward: Side,
+    forward: Side,
+    backward_marks: &mut [u8; PLACES],
+    forward_marks: &mut [u8; PLACES],
 )
-    requires sides { BothSides backward.now backward_next.now forward.now forward_next.now backward_marks.old
-        forward_marks.old }
-    requires enter { MayEnter backward.now backward_marks.old group }
-    ensures { Crossed backward.now forward.now group backward_marks.old
+    requires { MayEnter backward.roots.now backward_marks.old group }
+    ensures { Crossed backward.entry.roots.now forward.entry.roots.now group backward_marks.old
         forward_marks.old backward_marks.new forward_marks.new }
 {
     backward_marks[group] = 1;
     let mut cell = group;
-    while cell < backward.len() {
-        let shared = entry_at(forward, cell);
+    while cell < PLACES {
+        let shared = usize::from(forward.roots[cell]);
         if forward_marks[shared] == 0 {
-            from_forward(
-                shared,
-                forward,
-                forward_next,
-                backward,
-                backward_next,
-                forward_marks,
-                backward_marks,
-            );
+            from_forward(shared, forward, backward, forward_marks, backward_marks);
         }
-        cell = entry_at(backward_next, cell);
+        cell = usize::from(backward.next[cell]);
     }
 }
 
-// And back again: the same with the sides exchanged.
+// And back again: the same with the sides exchanged. Two functions that call each other, as the request words it (docs/DECISIONS.md, the forms
+// that it names).
 #[cycle(from_backward_from_forward)]
 fn from_forward(
     group: usize,
-    forward: &[u16],
-    forward_next: &[u16],
-    backward: &[u16],
-    backward_next: &[u16],
-    forward_marks: &mut [u8],
-    backward_marks: &mut [u8],
+    forward: Side,
+    backward: Side,
+    forward_marks: &mut [u8; PLACES],
+    backward_marks: &mut [u8; PLACES],
 )
-    requires sides { BothSides forward.now forward_next.now backward.now backward_next.now forward_marks.old
-        backward_marks.old }
-    requires enter { MayEnter forward.now forward_marks.old group }
-    ensures { Crossed forward.now backward.now group forward_marks.old
+    requires { MayEnter forward.roots.now forward_marks.old group }
+    ensures { Crossed forward.entry.roots.now backward.entry.roots.now group forward_marks.old
         backward_marks.old forward_marks.new backward_marks.new }
 {
     forward_marks[group] = 1;
     let mut cell = group;
-    while cell < forward.len() {
-        let shared = entry_at(backward, cell);
+    while cell < PLACES {
+        let shared = usize::from(backward.roots[cell]);
         if backward_marks[shared] == 0 {
-            from_backward(
-                shared,
-                backward,
-                backward_next,
-                forward,
-                forward_next,
-                backward_marks,
-                forward_marks,
-            );
+            from_backward(shared, backward, forward, backward_marks, forward_marks);
         }
-        cell = entry_at(forward_next, cell);
+        cell = usize::from(forward.next[cell]);
     }
 }
 
 // Whether one cell's group leads across to the other cell's, once the cells of both sides are listed. Each group is entered once and each
 // list walked once, so the time is linear in the cells.
-fn crosses<'a>(
-    backward: &'a [u16],
-    backward_next: &'a [u16],
-    forward: &'a [u16],
-    forward_next: &'a [u16],
-    one: u16,
-    other: u16,
-) -> bool
-    requires sides { BothSides backward.now backward_next.now forward.now forward_next.now (fresh_labels_of places) (fresh_labels_of places) }
-    requires one { one < length backward.now }
-    requires other { other < length backward.now }
-    ensures { JoinedAcross backward.now forward.now one other result }
+fn crosses(backward: Side, forward: Side, one: u16, other: u16) -> bool
+    requires one { one < places }
+    requires other { other < places }
+    ensures { JoinedAcross backward.entry.roots.now forward.entry.roots.now one other result }
 {
-    let start = entry_at(backward, one as usize);
-    let asked = entry_at(backward, other as usize);
-    let mut backward_marks = [0u8; PLACES];
-    let mut forward_marks = [0u8; PLACES];
+    let start = usize::from(backward.roots[usize::from(one)]);
+    let asked = usize::from(backward.roots[usize::from(other)]);
+    let mut backward_marks = [0; PLACES];
+    let mut forward_marks = [0; PLACES];
     from_backward(
         start,
         backward,
-        backward_next,
         forward,
-        forward_next,
         &mut backward_marks,
         &mut forward_marks,
     );
@@ -184,12 +157,13 @@ pub fn joined_across<'a>(
         &mut forward_roots,
         &mut forward_next,
     );
-    crosses(
-        &backward_roots,
-        &backward_next,
-        &forward_roots,
-        &forward_next,
-        one,
-        other,
-    )
+    let backward = Side {
+        roots: &backward_roots,
+        next: &backward_next,
+    };
+    let forward = Side {
+        roots: &forward_roots,
+        next: &forward_next,
+    };
+    crosses(backward, forward, one, other)
 }

@@ -1,7 +1,7 @@
 -- Two trees joined: the ways from both cells to their roots are shortened, and then the larger root goes under the smaller. The parents
 -- stand for the key in which the keys of the two cells are one, and each cell's root moves with its tree.
 use Prim.Native.Nat.{ℕ, ◌<◌, min, max}
-use mathlib.Core.Path.{◌≡◌, refl, sym, ap, ◌∙◌}
+use mathlib.Core.Path.{◌≡◌, refl, ap}
 use mathlib.Core.Bool.{Bool, true, false, cond}
 use mathlib.Core.List.{List}
 use native.Mathlib.Omega.{arith}
@@ -78,24 +78,8 @@ module _ {ps : List ℕ} (down : Descends ps) {one other : ℕ} (inside : (one <
   -- as the code finds them, one after the other
   module _ {u v : ℕ} {rs qs : List ℕ} (p : (u ≡ (find_of ps one).root) × (rs ≡ (find_of ps one).parents))
       (q : (v ≡ (find_of rs other).root) × (qs ≡ (find_of rs other).parents)) where
-    right_is : v ≡ right
-    right_is = q.0 ∙ ap (λ l. (find_of l other).root) p.1
-
-    both_is : qs ≡ both
-    both_is = q.1 ∙ ap (λ l. (find_of l other).parents) p.1
-
-    pub roots_made : record { one = u; other = v } ≡ roots_of ps one other
-    roots_made = rw (p.0, right_is)
-
     pub child_inside : max u v < places
-    child_inside = rw (p.0, right_is) (omega (arith, left_inside, right_inside))
-
-    pub same_made : u ≡ v → qs ≡ join_of ps one other
-    same_made e = both_is ∙ sym (joined_same (sym p.0 ∙ e ∙ right_is))
-
-    pub apart_made : (u ≡ v → ⊥) → {child top : ℕ} → child ≡ max u v → top ≡ min u v → set qs child top ≡ join_of ps one other
-    apart_made n c t =
-        rw (c, t, both_is, p.0, right_is) (sym (joined_apart (λ e. n (p.0 ∙ e ∙ sym right_is))))
+    child_inside = rw (p.0, q.0, p.1) (omega (arith, left_inside, right_inside))
 
   module _ {key : ℕ → ℕ} (s : Stands key ps) where
     at_first : Stands key (find_of ps one).parents

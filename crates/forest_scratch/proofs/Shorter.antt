@@ -11,7 +11,7 @@ use borrow.Author.Tests.{eq-eqb, ne_eqb}
 use lib.ListN.{length, get_or, set, length-set}
 use lib.Seq.{get_or-set_same, get_or-set_other}
 use Rattle.forest.specs.Arrays.{places, parent_in}
-use Rattle.forest.proofs.Fill.{get_d_within}
+use Rattle.std.proofs.lemmas.List.{get_or_default}
 use Rattle.forest_scratch.specs.Scratch.{Descends, find_within, find_of, Root, Kept}
 
 -- other parents, in which the same cells are roots and each cell has the root that it had
@@ -154,58 +154,56 @@ found {ps} {c} down inside = found_within c ps c (le_refl c) inside down
 
 -- ---- the loop
 
--- the loop of a find stands at `at`, whose parent is `above`, whose parent is `next`
-pub record Going (before : List ℕ) (cell : ℕ) (ps : List ℕ) (at above next : ℕ) : Type 0 where
+-- the loop of a find stands at a cell; the root that is found from there is the root of the first
+pub record Going (before : List ℕ) (cell : ℕ) (ps : List ℕ) (at : ℕ) : Type 0 where
   pub falls : Descends ps
   pub inside : at < places
-  pub here : above ≡ parent_in ps at
-  pub ahead : next ≡ parent_in ps above
   pub limit : ℕ
   pub enough : at ≤ limit
   pub left : find_within limit ps at ≡ find_of before cell
 
 module _ {before : List ℕ} {cell : ℕ} where
-  -- it stands at a cell
-  going_at : {ps : List ℕ} {at : ℕ} (limit : ℕ) → Descends ps → at < places → at ≤ limit → find_within limit ps at ≡ find_of before cell
-      → Going before cell ps at (get_or ps at 0) (get_or ps (get_or ps at 0) 0)
-  going_at {ps} {at} limit down inside enough left =
-      record { falls = down; inside = inside; here = here; ahead = ahead; limit = limit; enough = enough; left = left }
-    where
-      here : get_or ps at 0 ≡ parent_in ps at
-      here = get_d_within ps at 0 at (rw down.long inside)
+  pub going_begin : Descends before → cell < places → Going before cell before cell
+  going_begin down inside = record { falls = down; inside = inside; limit = cell; enough = le_refl cell; left = refl }
 
-      ahead : get_or ps (get_or ps at 0) 0 ≡ parent_in ps (get_or ps at 0)
-      ahead = get_d_within ps (get_or ps at 0) 0 _ (rw down.long (rw here (omega (arith, down.low at, inside))))
+  module _ {ps : List ℕ} {at : ℕ} (r : Going before cell ps at) where
+    -- as the code reads them
+    abbrev pub above_read : ℕ
+    above_read = get_or ps at 0
 
-  pub going_begin : Descends before → cell < places → Going before cell before cell (get_or before cell 0) (get_or before (get_or before cell 0) 0)
-  going_begin down inside = going_at cell down inside (le_refl cell) refl
+    abbrev pub next_read : ℕ
+    next_read = get_or ps above_read 0
 
-  module _ {ps : List ℕ} {at above next : ℕ} (r : Going before cell ps at above next) where
-    next_is : next ≡ parent_in ps (parent_in ps at)
-    next_is = r.ahead ∙ ap (parent_in ps) r.here
+    above_is : above_read ≡ parent_in ps at
+    above_is = get_or_default ps at 0 at (rw r.falls.long r.inside)
 
-    pub above_inside : above < places
-    above_inside = omega (arith, r.inside, r.here, r.falls.low at)
+    pub above_inside : above_read < places
+    above_inside = omega (arith, r.inside, above_is, r.falls.low at)
 
-    pub next_inside : next < places
-    next_inside = omega (arith, above_inside, r.ahead, r.falls.low above)
+    pub next_is : next_read ≡ parent_in ps (parent_in ps at)
+    next_is = get_or_default ps above_read 0 _ (rw r.falls.long above_inside) ∙ ap (parent_in ps) above_is
 
-    module _ (n : next ≡ above → ⊥) where
+    module _ (n : next_read ≡ above_read → ⊥) where
       way_on : parent_in ps (parent_in ps at) ≡ parent_in ps at → ⊥
-      way_on e = n (next_is ∙ e ∙ sym r.here)
+      way_on e = n (next_is ∙ e ∙ sym above_is)
 
       -- the cell falls
-      pub falls : next < at
+      pub falls : next_read < at
       falls = omega (arith, next_is, next_falls ps at r.inside r.falls way_on)
 
       -- it takes its parent's parent for its own, and the loop goes there
-      pub going_more : Going before cell (set ps at next) next (get_or (set ps at next) next 0) (get_or (set ps at next) (get_or (set ps at next) next 0) 0)
+      pub going_more : Going before cell (set ps at next_read) next_read
       going_more =
-          going_at (r.limit - 1) (rw next_is (halved ps at r.inside r.falls).falls) next_inside (omega (arith, falls, r.enough))
-          (rw next_is (sym (goes_on ps at r.inside r.falls r.limit r.enough way_on)) ∙ r.left)
+          record {
+            falls = rw next_is (halved ps at r.inside r.falls).falls;
+            inside = omega (arith, falls, r.inside);
+            limit = r.limit - 1;
+            enough = omega (arith, falls, r.enough);
+            left = rw next_is (sym (goes_on ps at r.inside r.falls r.limit r.enough way_on)) ∙ r.left;
+          }
 
-    pub going_end : next ≡ above → record { root = above; parents = ps } ≡ find_of before cell
+    pub going_end : next_read ≡ above_read → record { root = above_read; parents = ps } ≡ find_of before cell
     going_end e =
-        ap (λ m. record { root = m; parents = ps }) r.here
-        ∙ sym (ends_here ps at r.inside r.falls r.limit r.enough (sym next_is ∙ e ∙ r.here))
+        ap (λ m. record { root = m; parents = ps }) above_is
+        ∙ sym (ends_here ps at r.inside r.falls r.limit r.enough (sym next_is ∙ e ∙ above_is))
         ∙ r.left

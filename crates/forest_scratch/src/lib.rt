@@ -2,7 +2,7 @@
 // a find halves the way that it goes, and of two roots the larger goes under the smaller.
 #![tactic(auto)]
 
-ghost use Rattle.std.specs.Prelude.{◌≡◌, ◌<◌, min, max};
+ghost use Rattle.std.specs.Prelude.{◌≡◌, ◌<◌};
 ghost use Rattle.graph.specs.Forest.{put};
 ghost use Rattle.forest.specs.Arrays.{places};
 ghost use Rattle.forest_scratch.specs.Scratch.{Descends, find_of, roots_of, join_of};
@@ -25,9 +25,9 @@ pub fn join(parent: &mut [u16; PLACES], one: u16, other: u16) -> Roots
 {
     let u = find(parent, one);
     let v = find(parent, other);
-    // Most links of a full window find their ends joined already: nothing is stored then.
+    // Most links of a full window find their ends joined already: nothing is stored then. Of two roots the smaller becomes the parent.
     if u != v {
-        parent[larger(u, v) as usize] = smaller(u, v);
+        parent[usize::from(u.max(v))] = u.min(v);
     }
     Roots { one: u, other: v }
 }
@@ -39,19 +39,6 @@ pub fn moved(root: u16, child: u16, top: u16) -> u16
     if root == child { top } else { root }
 }
 
-// The smaller of two roots becomes the parent of the larger.
-pub fn smaller(one: u16, other: u16) -> u16
-    ensures { result ≡ min one other }
-{
-    if one < other { one } else { other }
-}
-
-pub fn larger(one: u16, other: u16) -> u16
-    ensures { result ≡ max one other }
-{
-    if one < other { other } else { one }
-}
-
 // The root of the cell. The way to it is halved: each cell on it that is passed takes its parent's parent for its own.
 fn find(parent: &mut [u16; PLACES], cell: u16) -> u16
     requires descends { Descends parent.old }
@@ -59,14 +46,14 @@ fn find(parent: &mut [u16; PLACES], cell: u16) -> u16
     ensures value { result ≡ (find_of parent.old cell).root }
     ensures parent_after { parent.new ≡ (find_of parent.old cell).parents }
 {
-    let mut at = cell;
-    let mut above = parent[at as usize];
-    let mut next = parent[above as usize];
-    while next != above {
-        parent[at as usize] = next;
-        at = next;
-        above = parent[at as usize];
-        next = parent[above as usize];
+    let mut at = usize::from(cell);
+    loop {
+        let above = parent[at];
+        let next = parent[usize::from(above)];
+        if next == above {
+            return above;
+        }
+        parent[at] = next;
+        at = usize::from(next);
     }
-    above
 }

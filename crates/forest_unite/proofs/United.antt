@@ -2,7 +2,7 @@
 --
 -- A store within a list is `put`, whatever the default; so the three cases of a link (one root; the one under the other; the
 -- other under the one) agree one by one.
-use Rattle.std.proofs.Common.{◌≡◌, ℕ, ◌+◌, ◌%◌, ◌^◌, ◌<◌, ◌≤◌, Bool, true, false, cond, eqb, List, length, get_or, set, refl, lt_of_lt_of_le, mod-eq_of_lt, arith, length-set, get_or-set_other, get_or-set_same, eq-eqb, ne_eqb}
+use Rattle.std.proofs.Common.{◌≡◌, ℕ, ◌+◌, ◌%◌, ◌^◌, ◌<◌, ◌≤◌, Bool, true, false, cond, eqb, List, Option, Some, None, length, get_or, set, refl, lt_of_lt_of_le, mod-eq_of_lt, arith, length-set, get_or-set_other, get_or-set_same, eq-eqb, ne_eqb}
 use mathlib.Core.Path.{fun_ext}
 use native.Mathlib.Decide.{ℕ_discrete}
 use Rattle.graph.specs.Forest.{Forest, climb, put, merged, goes_under_of, join_roots, unite}
@@ -11,7 +11,7 @@ use Rattle.forest.specs.Arrays.{parent_in, size_in, held}
 use Rattle.forest.proofs.Held.{root_below}
 use Rattle.forest.proofs.Ranged.{Ranged}
 use Rattle.forest_unite.specs.declared.Merge.{Merge}
-use Rattle.forest_unite.specs.United.{no_merge, under, merge_of_roots_of, merge_of_lem, merged_parents, merged_sizes, merged_labels}
+use Rattle.forest_unite.specs.United.{under, merge_of_roots_of, merge_of_lem, merged_parents, merged_sizes, merged_labels}
 
 -- ---- stores
 store_put : (l : List ℕ) (i v : ℕ) (d : ℕ → ℕ) → i < length l → (λ x. get_or (set l i v) x (d x)) ≡ put i v (λ x. get_or l x (d x))
@@ -22,11 +22,11 @@ store_put l i v d h = fun_ext (λ x. at x (ℕ_discrete x i))
     at x (no k) = rw (ne_eqb x i k) (get_or-set_other l i x v (d x) k)
 
 -- the forest that the lists hold after a link
-abbrev pub after : List ℕ → List ℕ → List ℕ → ℕ → Merge → Forest
+abbrev pub after : List ℕ → List ℕ → List ℕ → ℕ → Option Merge → Forest
 after ps ss ls label h = held (merged_parents ps h) (merged_sizes ss h) (merged_labels ls h label)
 
 module _ {n : ℕ} (ps ss ls : List ℕ) (label : ℕ) (r : Ranged n ps ss) (narrow : n < 2 ^ 15) (labels : n ≤ length ls) where
-  after_under : (child top : ℕ) → child < n → top < n → after ps ss ls label (under ss child top) ≡ merged (held ps ss ls) label child top
+  after_under : (child top : ℕ) → child < n → top < n → after ps ss ls label (Some (under ss child top)) ≡ merged (held ps ss ls) label child top
   after_under child top hc ht =
       λ i.
       record {
@@ -44,16 +44,24 @@ module _ {n : ℕ} (ps ss ls : List ℕ) (label : ℕ) (r : Ranged n ps ss) (nar
   after_roots : (a b : ℕ) → a < n → b < n → after ps ss ls label (merge_of_roots_of ss a b) ≡ join_roots (held ps ss ls) label a b
   after_roots a b ha hb = picked (eqb a b) (goes_under_of (size_in ss) a b)
     where
-      picked : (t u : Bool) → after ps ss ls label (cond t no_merge (cond u (under ss a b) (under ss b a)))
+      picked : (t u : Bool) → after ps ss ls label (cond t None (cond u (Some (under ss a b)) (Some (under ss b a))))
           ≡ cond t (held ps ss ls) (cond u (merged (held ps ss ls) label a b) (merged (held ps ss ls) label b a))
       picked true u = refl
       picked false true = after_under a b ha hb
       picked false false = after_under b a hb ha
 
--- a store leaves the length as it is
-pub stored_length : (t : Bool) (l : List ℕ) (i v : ℕ) → length (cond t (set l i v) l) ≡ length l
-stored_length true l i v = length-set l i v
-stored_length false l i v = refl
+-- no array changes its length
+pub merged_parents_length : (ps : List ℕ) (h : Option Merge) → length (merged_parents ps h) ≡ length ps
+merged_parents_length ps None = refl
+merged_parents_length ps (Some h) = length-set ps h.child h.top
+
+pub merged_sizes_length : (ss : List ℕ) (h : Option Merge) → length (merged_sizes ss h) ≡ length ss
+merged_sizes_length ss None = refl
+merged_sizes_length ss (Some h) = length-set ss h.top h.size
+
+pub merged_labels_length : (ls : List ℕ) (h : Option Merge) (label : ℕ) → length (merged_labels ls h label) ≡ length ls
+merged_labels_length ls None label = refl
+merged_labels_length ls (Some h) label = length-set ls h.child label
 
 -- ---- one link more
 module _ {n : ℕ} (ps ss ls : List ℕ) (label : ℕ) (r : Ranged n ps ss) (narrow : n < 2 ^ 15) (labels : n ≤ length ls)

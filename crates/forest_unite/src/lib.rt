@@ -9,44 +9,43 @@ ghost use Rattle.forest_unite.specs.United.{merged_parents, merged_sizes, merged
 
 use forest::PLACES;
 
-// What a link does to a forest. Where its ends have different roots, the root `child` goes under
-// the root `top`, whose tree then has `size` cells. Otherwise nothing does, and the numbers are 0.
+// What a link does to a forest where its ends have different roots: the root `child` goes under the root `top`, whose tree then has
+// `size` cells. Where they have one root already there is no merge.
 #[derive(Clone, Copy)]
 pub struct Merge {
-    pub different: bool,
     pub child: u16,
     pub top: u16,
     pub size: u16,
 }
 
-// The child's new parent.
-pub fn merge_parents(parent: &mut [u16; PLACES], h: Merge)
-    ensures { parent.new ≡ merged_parents parent.old h }
+// The child's new parent, if there is a merge.
+pub fn merge_parents(parent: &mut [u16; PLACES], merge: Option<Merge>)
+    ensures { parent.new ≡ merged_parents parent.old merge }
 {
-    if h.different {
+    if let Some(h) = merge {
         store(parent, h.child, h.top);
     }
 }
 
 // The top's new size.
-pub fn merge_sizes(size: &mut [u16; PLACES], h: Merge)
-    ensures { size.new ≡ merged_sizes size.old h }
+pub fn merge_sizes(size: &mut [u16; PLACES], merge: Option<Merge>)
+    ensures { size.new ≡ merged_sizes size.old merge }
 {
-    if h.different {
+    if let Some(h) = merge {
         store(size, h.top, h.size);
     }
 }
 
 // The label of the child's step.
-pub fn merge_labels(label: &mut [u8; PLACES], h: Merge, place: u8)
-    ensures { label.new ≡ merged_labels label.old h place }
+pub fn merge_labels(label: &mut [u8; PLACES], merge: Option<Merge>, place: u8)
+    ensures { label.new ≡ merged_labels label.old merge place }
 {
-    if h.different {
-        store_label(label, h.child, place);
+    if let Some(h) = merge {
+        store(label, h.child, place);
     }
 }
 
-// One link more, whose step is labelled with the place.
+// One link more, whose step is labelled with the place. Each array is lent for itself: in a book each is a field of its own.
 pub fn unite(
     parent: &mut [u16; PLACES],
     size: &mut [u16; PLACES],
@@ -59,34 +58,22 @@ pub fn unite(
     ensures { United parent.old size.old label.old limit one other place
         parent.new size.new label.new }
 {
-    let a = forest_walk::root(parent, limit, one);
-    let b = forest_walk::root(parent, limit, other);
+    let merge = roots::merge_of(parent, size, limit, one, other);
     // Most links of a full window find their ends joined already.
-    if a == b {
+    if merge.is_none() {
         return;
     }
-    let h = roots::merge_of_roots(size, a, b);
-    merge_parents(parent, h);
-    merge_sizes(size, h);
-    merge_labels(label, h, place);
+    merge_parents(parent, merge);
+    merge_sizes(size, merge);
+    merge_labels(label, merge, place);
 }
 
-// The cell's number stored; beyond the slice nothing is.
-fn store(numbers: &mut [u16], cell: u16, number: u16)
-    ensures { numbers.new ≡ slice_set numbers.old cell number }
+// The cell's entry stored; beyond the slice nothing is.
+fn store<T: Copy>(entries: &mut [T], cell: u16, entry: T)
+    ensures { entries.new ≡ slice_set entries.old cell entry }
 {
-    let at = cell as usize;
-    if at < numbers.len() {
-        numbers[at] = number;
-    }
-}
-
-// The same for labels.
-fn store_label(label: &mut [u8], cell: u16, place: u8)
-    ensures { label.new ≡ slice_set label.old cell place }
-{
-    let at = cell as usize;
-    if at < label.len() {
-        label[at] = place;
+    let at = usize::from(cell);
+    if at < entries.len() {
+        entries[at] = entry;
     }
 }

@@ -8,7 +8,7 @@ use super::Merge;
 use forest_walk::root;
 
 // What a link of the two cells does to the forest.
-pub fn merge_of<'a>(parent: &'a [u16], size: &'a [u16], limit: u8, one: u16, other: u16) -> Merge
+pub fn merge_of(parent: &[u16], size: &[u16], limit: u8, one: u16, other: u16) -> Option<Merge>
     ensures { result ≡ merge_of_lem parent.now size.now limit one other }
 {
     let a = root(parent, limit, one);
@@ -17,21 +17,15 @@ pub fn merge_of<'a>(parent: &'a [u16], size: &'a [u16], limit: u8, one: u16, oth
 }
 
 // Of two roots, which goes under which.
-pub fn merge_of_roots(size: &[u16], a: u16, b: u16) -> Merge
+pub fn merge_of_roots(size: &[u16], a: u16, b: u16) -> Option<Merge>
     ensures { result ≡ merge_of_roots_of size.now a b }
 {
     if a == b {
-        return Merge {
-            different: false,
-            child: 0,
-            top: 0,
-            size: 0,
-        };
-    }
-    if goes_under(size, a, b) {
-        merge_under(size, a, b)
+        None
+    } else if goes_under(size, a, b) {
+        Some(merge_under(size, a, b))
     } else {
-        merge_under(size, b, a)
+        Some(merge_under(size, b, a))
     }
 }
 
@@ -41,25 +35,17 @@ fn goes_under(size: &[u16], a: u16, b: u16) -> bool
 {
     let size_a = size_of(size, a);
     let size_b = size_of(size, b);
-    if size_a < size_b {
-        return true;
-    }
-    if size_b < size_a {
-        return false;
-    }
-    b < a
+    size_a < size_b || (size_a == size_b && b < a)
 }
 
 // The child under the top, with the size of both trees.
 fn merge_under(size: &[u16], child: u16, top: u16) -> Merge
     ensures { result ≡ under size.now child top }
 {
-    let both = std::num::wrapping_add_u16(size_of(size, top), size_of(size, child));
     Merge {
-        different: true,
         child,
         top,
-        size: both,
+        size: size_of(size, top).wrapping_add(size_of(size, child)),
     }
 }
 
@@ -67,6 +53,5 @@ fn merge_under(size: &[u16], child: u16, top: u16) -> Merge
 fn size_of(size: &[u16], cell: u16) -> u16
     ensures { result ≡ size_in size.now cell }
 {
-    let at = cell as usize;
-    if at < size.len() { size[at] } else { 1 }
+    size.get(usize::from(cell)).copied().unwrap_or(1)
 }

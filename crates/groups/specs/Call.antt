@@ -1,9 +1,11 @@
 -- The groups of a book's window as a call (RULES 8.9), for every book and every buffer: one total number, 1 or 6, the first check that
 -- fails; where it is 0 the groups go to the fronts of three lent outputs, and a refusal changes nothing.
-use Rattle.std.specs.Prelude.{ℕ, zero, suc, ◌≤◌, ◌≡◌, Bool, List, [], ◌∷◌, length}
+use Rattle.std.specs.Prelude.{ℕ, zero, suc, ◌≡◌, Bool, List, [], ◌∷◌, Result, Ok, Err}
 use Rattle.numbers.specs.Kinds.{Log, Number}
 use Rattle.numbers.specs.Checks.{first_of, unless, has}
 use Rattle.numbers.specs.Front.{at_front}
+use Rattle.refusals.specs.declared.Refusal.{Refusal}
+use Rattle.refusals.specs.Number.{code_of}
 use Rattle.book_state.specs.declared.Book.{Book}
 use Rattle.book_state.specs.Arrays.{cells}
 use Rattle.book_state.specs.Numbers.{log_places}
@@ -11,6 +13,11 @@ use Rattle.book_state.specs.Order.{in_order_of}
 use Rattle.window_groups.specs.declared.Groups.{Groups}
 use Rattle.groups.specs.declared.GroupsAnswer.{GroupsAnswer}
 use Rattle.window_groups.specs.Groups.{groups_of}
+
+-- what the call tells through the interface: the number of the table, and with 0 how many links the window holds
+abbrev pub told : Result ℕ Refusal → GroupsAnswer
+told (Ok links) = record { links = links; number = 0 }
+told (Err refusal) = record { links = 0; number = code_of refusal }
 
 -- what is given, and what the three outputs hold afterwards
 pub record GroupsOutcome : Type 0 where
@@ -29,12 +36,6 @@ groups_number_in ordered log first size hold =
     ∷ unless (has cells size) 6
     ∷ unless (has cells hold) 6
     ∷ [])
-
--- the three outputs have room for a number of each cell
-pub record Long (first size hold : List ℕ) : Type 0 where
-  pub first_long_lem : cells ≤ length first
-  pub size_long : cells ≤ length size
-  pub hold_long : cells ≤ length hold
 
 -- of each cell its group's smallest cell, number of cells and least hold at the fronts; how many links the window holds
 unfoldable pub groups_by_number : (number : Number) (groups : Groups) (first size hold : List ℕ) → GroupsOutcome

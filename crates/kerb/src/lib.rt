@@ -1,7 +1,7 @@
 // The interface for C and Rust: each call of the library under a plain name, over `#[repr(C)]` structs, a slice as a pointer and
 // then a length. Every call promises what its definition says, for every input. Here are the small ones that every caller needs: cell
 // numbers, one record's bytes, and what a caller's header must agree with. The calls over a book have crates of their own: opening
-// and play, link and clock (`kerb_time`), joined, chain, groups, slides; those over whole link files are in `kerb_file`. The archive
+// and play, link and clock (`kerb_time`), joined, chain, groups, lamps, slides; those over whole link files are in `kerb_file`, over texts in `kerb_text`. The archive
 // libkerb.a (`kerb_c`) exports them all.
 #![tactic(auto)]
 
@@ -13,7 +13,7 @@ ghost use Rattle.kerb.specs.Interface.{version, book_size};
 
 use book_state::Book;
 use cells::Fitting;
-use file_record::RecordAnswer;
+use file_record::{Record, RecordAnswer};
 
 // A book that was never opened: no call over a book does more with it than to say so (RULES 7.8).
 #[unsafe(no_mangle)]
@@ -29,7 +29,7 @@ pub extern "C" fn kerb_pack(tick: u32, one: u16, other: u16, out: &mut [u8]) -> 
     ensures number { result ≡ pack_number (length out.old) }
     ensures output { out.new ≡ packed_of tick one other out.old }
 {
-    file_record::pack(tick, one, other, out)
+    refusals::number(file_record::pack(Record { tick, one, other }, out))
 }
 
 // Record i of these bytes (RULES 6.2).
@@ -37,7 +37,7 @@ pub extern "C" fn kerb_pack(tick: u32, one: u16, other: u16, out: &mut [u8]) -> 
 pub extern "C" fn kerb_unpack(records: &[u8], i: u32) -> RecordAnswer
     ensures { result ≡ record_of records.now i }
 {
-    file_record::unpack(records, i)
+    RecordAnswer::from(file_record::unpack(records, i))
 }
 
 // The lorry's number of a unit's cell, by the mounting, and the way back (RULES 1.3 to 1.7).

@@ -16,7 +16,7 @@ use settings::Settings;
 pub extern "C" fn kerb_read(file: &[u8]) -> Reading
     ensures { result ≡ read_of file.now }
 {
-    file::read(file)
+    Reading::from(file::read(file))
 }
 
 // A link file of these settings and record bytes, at the front of the output.
@@ -25,7 +25,7 @@ pub extern "C" fn kerb_write(s: Settings, records: &[u8], out: &mut [u8]) -> u8
     ensures number { result ≡ write_number s (length records.now) (length out.old) }
     ensures output { out.new ≡ output_of s records.now out.old }
 {
-    file_write::write(s, records, out)
+    refusals::number(file_write::write(s, records, out))
 }
 
 // What kerblist prints for a link file, at the front of the output. The open slide in it is that of the total of all records, and does not
@@ -34,5 +34,5 @@ pub extern "C" fn kerb_write(s: Settings, records: &[u8], out: &mut [u8]) -> u8
 pub extern "C" fn kerb_list(file: &[u8], out: &mut [u8]) -> ListAnswer
     ensures { GivesListing (listing_of file.now out.old) result out.new }
 {
-    listing::list(file, out)
+    ListAnswer::from(listing::list(file, out))
 }

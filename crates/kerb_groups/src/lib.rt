@@ -1,6 +1,5 @@
-// The interface for C and Rust: the groups of the window. It takes one shared reference to the book and lends
-// its fields on where they stand; what it gives, and what the lent buffers hold at the end, is what its definition says, for every
-// input.
+// The interface for C and Rust: the groups of the window. What it gives, and what the lent buffers hold at the end, is what its definition
+// says, for every input.
 #![tactic(auto)]
 
 ghost use Rattle.groups.specs.Call.{groups_given, GivesGroups};
@@ -20,18 +19,5 @@ pub extern "C" fn kerb_groups(
     ensures { GivesGroups (groups_given book.now log.now first.old size.old hold.old)
         result first.new size.new hold.new }
 {
-    groups::over_fields(
-        book.clock,
-        book.fitting,
-        &book.counts,
-        &book.forward_parent,
-        &book.forward_size,
-        &book.backward_parent,
-        &book.backward_size,
-        &book.backward_label,
-        log,
-        first,
-        size,
-        hold,
-    )
+    GroupsAnswer::from(groups::put(book, log, first, size, hold))
 }

@@ -1,6 +1,4 @@
-// The interface for C and Rust: the joined call. It takes one shared reference to the book and lends
-// its fields on where they stand; what it gives, and what the lent buffers hold at the end, is what its definition says, for every
-// input.
+// The interface for C and Rust: the joined call. What it gives is what its definition says, for every input.
 #![tactic(auto)]
 
 ghost use Rattle.std.specs.Prelude.{◌≡◌};
@@ -14,16 +12,5 @@ use book_state::Book;
 pub extern "C" fn kerb_joined(book: &Book, one: u16, other: u16) -> JoinedAnswer
     ensures { result ≡ joined_of book.now one other }
 {
-    book_joined::over_fields(
-        book.clock,
-        book.fitting,
-        &book.counts,
-        &book.forward_parent,
-        &book.forward_size,
-        &book.backward_parent,
-        &book.backward_size,
-        &book.backward_label,
-        one,
-        other,
-    )
+    JoinedAnswer::from(book_joined::ask(book, one, other))
 }

@@ -1,5 +1,4 @@
-// The interface for C and Rust: the two lamps. It takes one shared reference to the book and lends its fields on where they stand; what it
-// gives is what its definition says, for every input.
+// The interface for C and Rust: the two lamps. What it gives is what its definition says, for every input.
 #![tactic(auto)]
 
 ghost use Rattle.std.specs.Prelude.{◌≡◌};
@@ -13,16 +12,5 @@ use lamps::LampsAnswer;
 pub extern "C" fn kerb_lamps(book: &Book, log: &[u16], mask: &[u8]) -> LampsAnswer
     ensures { result ≡ lamps_of book.now log.now mask.now }
 {
-    lamps::over_fields(
-        book.clock,
-        book.fitting,
-        &book.counts,
-        &book.forward_parent,
-        &book.forward_size,
-        &book.backward_parent,
-        &book.backward_size,
-        &book.backward_label,
-        log,
-        mask,
-    )
+    LampsAnswer::from(lamps::ask(book, log, mask))
 }

@@ -1,6 +1,5 @@
-// The interface for C and Rust: the call that plays a link file into a book. It takes one reference to the book and lends
-// its fields on where they stand, so that no copy of the book is made; what it gives, the book and the log at the end are those of
-// its definition, for every input.
+// The interface for C and Rust: the call that plays a link file into a book. What it gives, the book and the log at the end are
+// those of its definition, for every input.
 #![tactic(auto)]
 
 ghost use Rattle.file_play.specs.Play.{play_of, GivesPlay};
@@ -14,19 +13,5 @@ use file_play::PlayAnswer;
 pub extern "C" fn kerb_play(book: &mut Book, log: &mut [u16], file: &[u8]) -> PlayAnswer
     ensures { GivesPlay (play_of file.now book.old log.old) book.new result log.new }
 {
-    let played = file_play::play_file(
-        book.clock,
-        book.fitting,
-        &mut book.counts,
-        &mut book.forward_parent,
-        &mut book.forward_size,
-        &mut book.backward_parent,
-        &mut book.backward_size,
-        &mut book.backward_label,
-        log,
-        file,
-    );
-    book.clock = played.clock;
-    book.fitting = played.fitting;
-    played.answer
+    PlayAnswer::from(file_play::play_file(book, log, file))
 }

@@ -12,7 +12,7 @@ use text_list::{TextInAnswer, TextOutAnswer};
 pub extern "C" fn kerb_text_in(s: Settings, text: &[u8], out: &mut [u8]) -> TextInAnswer
     ensures { GivesTextIn (text_in_of s text.now out.old) result out.new }
 {
-    text_in::text_in(s, text, out)
+    TextInAnswer::from(text_in::text_in(s, text, out))
 }
 
 // The text of a link file's records, at the front of the output.
@@ -20,5 +20,5 @@ pub extern "C" fn kerb_text_in(s: Settings, text: &[u8], out: &mut [u8]) -> Text
 pub extern "C" fn kerb_text_out(file: &[u8], out: &mut [u8]) -> TextOutAnswer
     ensures { GivesTextOut (text_out_of file.now out.old) result out.new }
 {
-    text_out::text_out(file, out)
+    TextOutAnswer::from(text_out::text_out(file, out))
 }

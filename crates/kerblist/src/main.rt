@@ -45,9 +45,9 @@ fn read_full<R: Read>(input: &mut R, file: &mut [u8]) -> io::Result<usize>
 }
 
 fn print_listing(rt: &HostRuntime, file: &[u8]) -> io::Result<()> {
+    // An output of 20,480 bytes has room for every listing, so none is refused.
     let mut out = [0u8; 20480];
-    let listed = listing::list(file, &mut out);
-    let length = listed.length;
+    let length = listing::list(file, &mut out).unwrap_or(0);
     match rt.stdout().write_all(&out[..length]) {
         Ok(()) => Ok(()),
         Err(_) => rt

@@ -8,7 +8,7 @@ use mathlib.Core.List.{List}
 use native.Mathlib.Decide.{ℕ_discrete}
 use native.Mathlib.Numerals.{add-one}
 use lib.Dec.{eqb}
-use lib.ListN.{get_or, set, length-set}
+use lib.ListN.{get_or, set, length-set, replicate, get_or-replicate}
 use lib.Seq.{get_or-set_same, get_or-set_other}
 use borrow.Author.Tests.{eq-eqb, ne_eqb}
 use Rattle.graph.specs.Link.{Link, chains}
@@ -16,15 +16,21 @@ use Rattle.graph.proofs.Chains.{true_chains, false_chains}
 use Rattle.cells.specs.Cell.{sectors}
 use Rattle.slides.specs.declared.Clock.{Clock}
 use Rattle.book_state.specs.Arrays.{cells}
+use Rattle.window_ends.specs.declared.Ends.{Ends}
 use Rattle.window_ends.specs.Ends.{is_end, links_in, ends_of_lem}
 use Rattle.window_ends.proofs.Laws.{first_below, linked_at, same_first}
 use Rattle.lamps.specs.Mask.{is_body}
 use Rattle.lamps.specs.Zones.{Zone, in_zone_of}
-use Rattle.lamps.specs.Lamps.{some_below, on_body, lights}
-use Rattle.lamps.specs.Groups.{body_in, Marks, lights_by}
-use Rattle.lamps.proofs.Search.{some_agree}
+use Rattle.lamps.specs.Lamps.{some_below, on_body, lights, lamp_from, lamp_in}
+use Rattle.lamps.specs.Groups.{Firsts, body_in, Marks, lights_by}
+use Rattle.lamps.proofs.Search.{some_agree, lamp_agree}
 
 -- ---- the marks, cell by cell
+
+-- no cell yet
+pub marks_none : (first mask : List ℕ) → Marks first mask 0 (replicate cells 0)
+unfolding some_below
+marks_none first mask = record { long = refl; marked = λ g h. get_or-replicate cells g 0 0 h }
 
 module _ {first mask : List ℕ} {i : ℕ} {dark : List ℕ} (so_far : Marks first mask i dark) where
   -- a body cell more
@@ -84,3 +90,15 @@ module _ (clock : Clock) (counts log mask : List ℕ) where
 
     pub lights_told : (c : ℕ) → c < cells → lights_by zone first (ends_of_lem clock counts log).linked dark c ≡ lights links mask zone c
     lights_told c h = ap₂ (λ s t. in_zone_of sectors zone c && s && t) (linked_told c h) (dark_told c h)
+
+-- ---- the lamps
+
+-- the smallest cells of groups are cells
+pub firsts : (clock : Clock) (counts log : List ℕ) {ends : Ends} → ends ≡ ends_of_lem clock counts log → Firsts ends.first
+firsts clock counts log is c h = rw is (first_below clock counts log c h)
+
+-- the lamp of a zone
+pub lamp_told : (clock : Clock) (counts log mask : List ℕ) (zone : Zone) {ends : Ends} {dark : List ℕ} → ends ≡ ends_of_lem clock counts log →
+    Marks ends.first mask cells dark → lamp_from (lights_by zone ends.first ends.linked dark) 0 cells ≡ lamp_in (links_in clock counts log) mask zone
+lamp_told clock counts log mask zone {ends} {dark} is marks =
+    rw is (lamp_agree 0 cells (λ c h. lights_told clock counts log mask (rw is at marks) zone c h))

@@ -8,6 +8,7 @@ use mathlib.Core.Bool.{Bool, true, false, not, ◌&&◌, and-eq-true_iff, true�
 use mathlib.Core.List.{List}
 use mathlib.Core.Logic.{◌↔◌}
 use native.Mathlib.Omega.{arith}
+use Rattle.std.proofs.Common.{is_some, unwrap_or}
 use borrow.Author.Tests.{not-true}
 use Rattle.graph.specs.Link.{Link, Linked, Chained, chains}
 use Rattle.graph.proofs.Chains.{chains_true, true_chains}
@@ -64,7 +65,7 @@ module _ (links : List Link) (mask : List ℕ) (zone : Zone) where
     pub smallest : is-lit ≡ true → Lights cell × ((c : ℕ) → Lights c → cell ≤ c)
     pub dark : is-lit ≡ false → cell ≡ 0
 
-  pub lamp_says : LampSays (lamp_in links mask zone).lit (lamp_in links mask zone).cell
+  pub lamp_says : LampSays (is_some (lamp_in links mask zone)) (unwrap_or (lamp_in links mask zone) 0)
   lamp_says =
       record {
         lit = (
@@ -74,5 +75,5 @@ module _ (links : List Link) (mask : List ℕ) (zone : Zone) where
         smallest = λ e.
             let w = lit_by (lights links mask zone) 0 cells e in
             ((lights_is _).0 w.0, λ c l. w.1 c (omega arith) ((lights_is c).1 l));
-        dark = dark_zero (lights links mask zone) 0 cells;
+        dark = dark_zero (lamp_in links mask zone);
       }

@@ -1,5 +1,5 @@
 -- The body mask, byte by byte: a pass over its first bytes tells whether it is one; and what it is not to be one.
-use Prim.Native.Nat.{ℕ, zero, suc, ◌≤◌, ◌<◌, zero-le}
+use Prim.Native.Nat.{ℕ, zero, suc, ◌+◌, ◌≤◌, ◌<◌, zero-le}
 use mathlib.Core.Path.{◌≡◌, refl, ◌∙◌, sym, ap}
 use mathlib.Core.Bool.{Bool, true, false, ◌&&◌, and-true, and-false, and_assoc, and-eq-true_iff, false≢true, true≢false}
 use mathlib.Core.List.{List, [], ◌∷◌}
@@ -7,15 +7,26 @@ use mathlib.Core.Logic.{◌↔◌, ◌⊎◌, inl, inr}
 use native.Mathlib.Omega.{arith}
 use lib.Dec.{leb}
 use lib.ListN.{length, get_or}
-use borrow.Author.Tests.{leb-false, lt-leb}
+use native.Mathlib.Numerals.{add-one}
+use borrow.Author.Tests.{leb-false, le-leb, lt-leb}
 use Rattle.lamps.specs.Mask.{is_mask_of}
 
--- one byte more
-pub mask_more : (i : ℕ) (mask : List ℕ) → i < length mask → is_mask_of (suc i) mask ≡ (is_mask_of i mask && leb (get_or mask i 0) 1)
+-- no byte yet, and one byte more
+pub mask_none : (mask : List ℕ) → is_mask_of 0 mask ≡ true
+unfolding is_mask_of
+mask_none mask = refl
+
+mask_more : (i : ℕ) (mask : List ℕ) → i < length mask → is_mask_of (suc i) mask ≡ (is_mask_of i mask && leb (get_or mask i 0) 1)
 unfolding is_mask_of
 mask_more i [] h = absurd (omega arith)
 mask_more zero (x ∷ mask) h = and-true (leb x 1)
 mask_more (suc i) (x ∷ mask) h = ap (λ t. leb x 1 && t) (mask_more i mask (omega arith)) ∙ sym (and_assoc (leb x 1) _ _)
+
+pub mask_over : (i : ℕ) (mask : List ℕ) → i < length mask → 1 < get_or mask i 0 → is_mask_of (i + 1) mask ≡ false
+mask_over i mask h k = rw (add-one i, mask_more i mask h, lt-leb _ _ k) (and-false (is_mask_of i mask))
+
+pub mask_on : (i : ℕ) (mask : List ℕ) → i < length mask → get_or mask i 0 ≤ 1 → is_mask_of (i + 1) mask ≡ is_mask_of i mask
+mask_on i mask h k = rw (add-one i, mask_more i mask h, le-leb _ _ k) (and-true (is_mask_of i mask))
 
 pub mask_long : (n : ℕ) (mask : List ℕ) → is_mask_of n mask ≡ true → n ≤ length mask
 unfolding is_mask_of

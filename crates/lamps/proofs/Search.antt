@@ -2,11 +2,11 @@
 -- are asked find the same.
 use Prim.Native.Nat.{ℕ, zero, suc, ◌+◌, ◌-◌, ◌≤◌, ◌<◌}
 use mathlib.Core.Path.{◌≡◌, refl, sym, ap, ◌∙◌}
+use Rattle.std.proofs.Common.{Option, Some, None, is_some, unwrap_or}
 use mathlib.Core.Bool.{Bool, true, false, cond, ◌||◌, or-true, false≢true, true≢false}
 use native.Mathlib.Omega.{arith}
 use native.Mathlib.Decide.{ℕ_discrete}
 use native.Mathlib.Numerals.{add-one}
-use Rattle.lamps.specs.declared.Lamp.{Lamp}
 use Rattle.lamps.specs.Lamps.{some_below, lamp_from}
 
 -- ---- some cell
@@ -42,7 +42,7 @@ one_more n c h = omega arith
 module _ (t : ℕ → Bool) where
   -- of the cells below n, those below c being past
   module _ (n c : ℕ) (h : c < n) where
-    pub lamp_found : t c ≡ true → lamp_from t c (n - c) ≡ record { cell = c; lit = true }
+    pub lamp_found : t c ≡ true → lamp_from t c (n - c) ≡ Some c
     unfolding lamp_from
     lamp_found e = rw (one_more n c h, e)
 
@@ -51,7 +51,7 @@ module _ (t : ℕ → Bool) where
     lamp_past e = rw (one_more n c h, e, add-one c)
 
   -- where none is left that passes
-  pub lamp_none : (c count : ℕ) → ((d : ℕ) → c ≤ d → t d ≡ false) → lamp_from t c count ≡ record { cell = 0; lit = false }
+  pub lamp_none : (c count : ℕ) → ((d : ℕ) → c ≤ d → t d ≡ false) → lamp_from t c count ≡ None
   unfolding lamp_from
   lamp_none c zero e = refl
   lamp_none c (suc more) e = rw (e c (omega arith)) (lamp_none (suc c) more (λ d h. e d (omega arith)))
@@ -67,17 +67,17 @@ lamp_agree c (suc more) e = rw (e c (omega arith), lamp_agree (suc c) more (λ d
 abbrev pub SmallestOf : (test : ℕ → Bool) (from cell : ℕ) → Type 0
 SmallestOf t from x = (t x ≡ true) × ((d : ℕ) → from ≤ d → t d ≡ true → x ≤ d)
 
-pub lit_by : (t : ℕ → Bool) (c count : ℕ) → (lamp_from t c count).lit ≡ true → SmallestOf t c (lamp_from t c count).cell
+pub lit_by : (t : ℕ → Bool) (c count : ℕ) → is_some (lamp_from t c count) ≡ true → SmallestOf t c (unwrap_or (lamp_from t c count) 0)
 unfolding lamp_from
 lit_by t c zero e = absurd (false≢true e)
 lit_by t c (suc more) e = go (t c) refl e (lit_by t (suc c) more)
   where
-    rest : Lamp
+    rest : Option ℕ
     rest = lamp_from t (suc c) more
 
     go : (b : Bool) → t c ≡ b →
-        let o : Lamp = cond b (record { cell = c; lit = true }) rest in
-        o.lit ≡ true → (rest.lit ≡ true → SmallestOf t (suc c) rest.cell) → SmallestOf t c o.cell
+        let o : Option ℕ = cond b (Some c) rest in
+        is_some o ≡ true → (is_some rest ≡ true → SmallestOf t (suc c) (unwrap_or rest 0)) → SmallestOf t c (unwrap_or o 0)
     go true p e later = (p, λ d h k. h)
     go false p e later =
         let w = later e in (
@@ -88,30 +88,20 @@ lit_by t c (suc more) e = go (t c) refl e (lit_by t (suc c) more)
           ],
         )
 
-pub dark_zero : (t : ℕ → Bool) (c count : ℕ) → (lamp_from t c count).lit ≡ false → (lamp_from t c count).cell ≡ 0
-unfolding lamp_from
-dark_zero t c zero e = refl
-dark_zero t c (suc more) e = go (t c) e (dark_zero t (suc c) more)
-  where
-    rest : Lamp
-    rest = lamp_from t (suc c) more
-
-    go : (b : Bool) →
-        let o : Lamp = cond b (record { cell = c; lit = true }) rest in
-        o.lit ≡ false → (rest.lit ≡ false → rest.cell ≡ 0) → o.cell ≡ 0
-    go true e later = absurd (true≢false e)
-    go false e later = later e
+pub dark_zero : (lamp : Option ℕ) → is_some lamp ≡ false → unwrap_or lamp 0 ≡ 0
+dark_zero None e = refl
+dark_zero (Some c) e = absurd (true≢false e)
 
 -- a cell that passes lights it
-pub lit : (t : ℕ → Bool) (c count : ℕ) {d : ℕ} → c ≤ d → d < c + count → t d ≡ true → (lamp_from t c count).lit ≡ true
+pub lit : (t : ℕ → Bool) (c count : ℕ) {d : ℕ} → c ≤ d → d < c + count → t d ≡ true → is_some (lamp_from t c count) ≡ true
 unfolding lamp_from
 lit t c zero h k p = absurd (omega arith)
 lit t c (suc more) {d} h k p = go (t c) refl (λ above. lit t (suc c) more above (omega arith) p)
   where
-    rest : Lamp
+    rest : Option ℕ
     rest = lamp_from t (suc c) more
 
-    go : (b : Bool) → t c ≡ b → (suc c ≤ d → rest.lit ≡ true) → (cond b (record { cell = c; lit = true }) rest).lit ≡ true
+    go : (b : Bool) → t c ≡ b → (suc c ≤ d → is_some rest ≡ true) → is_some (cond b (Some c) rest) ≡ true
     go true q later = refl
     go false q later = elim (ℕ_discrete c d) [
       | yes is ↦ absurd (false≢true (sym q ∙ ap t is ∙ p))

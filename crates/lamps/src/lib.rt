@@ -5,29 +5,26 @@
 mod body; // body.rt: the body mask, and the groups that it marks
 mod zone; // zone.rt: the lamp of a zone
 
-ghost use Rattle.std.specs.Prelude.{◌≡◌, true};
-ghost use Rattle.book_state.specs.Arrays.{cells};
-ghost use Rattle.book_state.specs.Order.{book_of};
-ghost use Rattle.book_state.specs.Log.{Readable};
-ghost use Rattle.window_ends.specs.Ends.{links_in};
-ghost use Rattle.lamps.specs.Mask.{is_mask_of};
-ghost use Rattle.lamps.specs.Lamps.{lamps_number_in, lamps_by_number, lamps_of};
+ghost use Rattle.std.specs.Prelude.{◌≡◌};
+ghost use Rattle.lamps.specs.Lamps.{told, lamps_of};
 
-use book_state::order;
-use cells::Fitting;
-use slides::Clock;
+use book_state::Book;
+use refusals::Refusal;
+use window::Window;
+use zone::Zone;
+// Sectors 33 to 63 are on the left, 1 to 31 on the right.
+const LEFT: Zone = Zone { from: 33, end: 64 };
 
-// A mask and the arrays of a book have a place for each cell.
-pub const CELLS: usize = 1024;
+const RIGHT: Zone = Zone { from: 1, end: 32 };
 
-// Whether a lamp is lit, and the smallest cell that lights it; 0 while it is dark.
+// Of each lamp, the smallest cell that lights it; None while it is dark.
 #[derive(Clone, Copy)]
-pub struct Lamp {
-    pub cell: u16,
-    pub lit: bool,
+pub struct Lamps {
+    pub left: Option<u16>,
+    pub right: Option<u16>,
 }
 
-// What the call gives: whether each lamp is lit, and the smallest cell that lights it; 0 while it is dark. With a number that is not
+// The same for the interface: whether each lamp is lit, and the smallest cell that lights it, 0 while it is dark. With a number that is not
 // 0 all else is 0.
 #[repr(C)]
 #[derive(Clone, Copy)]
@@ -39,74 +36,42 @@ pub struct LampsAnswer {
     pub number: u8,
 }
 
-// The number, given whether the book is in order.
-fn lamps_number(ordered: bool, log: &[u16], mask: &[u8]) -> u8
-    ensures { result ≡ lamps_number_in ordered log.now mask.now }
+impl From<Result<Lamps, Refusal>> for LampsAnswer {
+    ghost from_gives = { λ lamps answer. answer ≡ told lamps };
+
+    fn from(lamps: Result<Lamps, Refusal>) -> LampsAnswer {
+        match lamps {
+            Ok(lamps) => LampsAnswer {
+                left_cell: lamps.left.unwrap_or(0),
+                right_cell: lamps.right.unwrap_or(0),
+                left: lamps.left.is_some(),
+                right: lamps.right.is_some(),
+                number: 0,
+            },
+            Err(refusal) => LampsAnswer {
+                left_cell: 0,
+                right_cell: 0,
+                left: false,
+                right: false,
+                number: u8::from(refusal),
+            },
+        }
+    }
+}
+
+// The lamps of a book's window: the checks come in the order 1, 6, 15.
+#[tactic(auto, using(crate::proofs::Groups::firsts, crate::proofs::Groups::lamp_told, crate::proofs::Mask::mask_long), unfolding(crate::specs::Lamps::lamps_of, crate::specs::Lamps::lamps_by_number, numbers::specs::Checks::first_of))]
+pub fn ask(book: &Book, log: &[u16], mask: &[u8]) -> Result<Lamps, Refusal>
+    ensures { told result ≡ lamps_of book.now log.now mask.now }
 {
-    if !ordered {
-        return 1;
-    }
-    if log.len() < 16384 {
-        return 6;
-    }
+    let window = Window::of(book, log)?;
     if !body::is_mask(mask) {
-        return 15;
+        return Err(Refusal::Mask);
     }
-    0
-}
-
-// The lamps of a window. Sectors 33 to 63 are on the left, 1 to 31 on the right.
-fn of_window(clock: Clock, counts: &[u16; 32], log: &[u16], mask: &[u8]) -> LampsAnswer
-    requires { Readable clock.n counts.now log.now × (is_mask_of cells mask.now ≡ true) }
-    ensures { result ≡ lamps_by_number 0 (links_in clock counts.now log.now) mask.now }
-{
-    let ends = window_ends::of_window(clock, counts, log);
+    let ends = window_ends::of_window(window);
     let dark = body::groups(&ends.first, mask);
-    let left = zone::lamp_of(33, 64, &ends.first, &ends.linked, &dark);
-    let right = zone::lamp_of(1, 32, &ends.first, &ends.linked, &dark);
-    LampsAnswer {
-        left_cell: left.cell,
-        right_cell: right.cell,
-        left: left.lit,
-        right: right.lit,
-        number: 0,
-    }
-}
-
-// The call over the fields of a book, each lent where it stands.
-pub fn over_fields<'a>(
-    clock: Clock,
-    fitting: Fitting,
-    counts: &'a [u16; 32],
-    forward_parent: &'a [u16; CELLS],
-    forward_size: &'a [u16; CELLS],
-    backward_parent: &'a [u16; CELLS],
-    backward_size: &'a [u16; CELLS],
-    backward_label: &'a [u8; CELLS],
-    log: &[u16],
-    mask: &[u8],
-) -> LampsAnswer
-    ensures { result ≡ lamps_of (book_of clock fitting counts.now forward_parent.now forward_size.now backward_parent.now backward_size.now backward_label.now) log.now mask.now }
-{
-    let ordered = order::in_order(
-        clock,
-        fitting,
-        counts,
-        forward_parent,
-        forward_size,
-        backward_parent,
-        backward_size,
-        backward_label,
-    );
-    let number = lamps_number(ordered, log, mask);
-    if number != 0 {
-        return LampsAnswer {
-            left_cell: 0,
-            right_cell: 0,
-            left: false,
-            right: false,
-            number,
-        };
-    }
-    of_window(clock, counts, log, mask)
+    Ok(Lamps {
+        left: zone::lamp_of(LEFT, &ends, &dark),
+        right: zone::lamp_of(RIGHT, &ends, &dark),
+    })
 }

@@ -7,65 +7,45 @@ ghost use Rattle.lamps.specs.Zones.{in_zone_of};
 ghost use Rattle.lamps.specs.Lamps.{lamp_from};
 ghost use Rattle.lamps.specs.Groups.{Firsts, lights_by};
 
-use super::{CELLS, Lamp};
+use forest::PLACES;
+use window_ends::Ends;
 
-// The lamp of the zone of rings 0 to 5 and the sectors from the first up to the end: cell by cell, upward. Six rings have 384 cells.
-pub fn lamp_of<'a>(
-    from: u16,
-    end: u16,
-    first: &'a [u16; CELLS],
-    linked: &'a [u8; CELLS],
-    dark: &'a [u8; CELLS],
-) -> Lamp
-    requires { Firsts first.now }
-    ensures { result ≡ lamp_from (lights_by (record { from = from; end = end }) first.now linked.now dark.now) 0 cells }
+// Rings 0 to 5, and the sectors from the first up to, and without, the end.
+#[derive(Clone, Copy)]
+pub struct Zone {
+    pub from: u16,
+    pub end: u16,
+}
+
+// The smallest cell of the zone that lights its lamp. Six rings have 384 cells.
+#[tactic(auto, using(crate::proofs::Search::lamp_found, crate::proofs::Search::lamp_past, crate::proofs::Beyond::lamp_beyond))]
+pub fn lamp_of(zone: Zone, ends: &Ends, dark: &[u8; PLACES]) -> Option<u16>
+    requires { Firsts ends.now.first }
+    ensures { result ≡ lamp_from (lights_by (record { from = zone.from; end = zone.end }) ends.now.first ends.now.linked dark.now) 0 cells }
 {
-    let mut cell: u16 = 0;
-    while cell < 384 {
-        if lights(from, end, first, linked, dark, cell) {
-            return Lamp { cell, lit: true };
+    for cell in 0..384 {
+        if lights(zone, ends, dark, cell) {
+            return Some(cell);
         }
-        cell += 1;
     }
-    Lamp {
-        cell: 0,
-        lit: false,
-    }
+    None
 }
 
 // Whether the cell lights the lamp.
-fn lights<'a>(
-    from: u16,
-    end: u16,
-    first: &'a [u16; CELLS],
-    linked: &'a [u8; CELLS],
-    dark: &'a [u8; CELLS],
-    cell: u16,
-) -> bool
-    requires { Firsts first.now × (cell < cells) }
-    ensures { result ≡ lights_by (record { from = from; end = end }) first.now linked.now dark.now cell }
+fn lights(zone: Zone, ends: &Ends, dark: &[u8; PLACES], cell: u16) -> bool
+    requires { Firsts ends.now.first × (cell < cells) }
+    ensures { result ≡ lights_by (record { from = zone.from; end = zone.end }) ends.now.first ends.now.linked dark.now cell }
 {
     let at = cell as usize;
-    if linked[at] == 0 {
-        return false;
-    }
-    if !in_zone(from, end, cell) {
-        return false;
-    }
-    let group = first[at] as usize;
-    dark[group] == 0
+    let group = ends.first[at] as usize;
+    ends.linked[at] != 0 && in_zone(zone, cell) && dark[group] == 0
 }
 
-// Whether the cell is in rings 0 to 5 and a sector from the first up to the end.
-fn in_zone(from: u16, end: u16, cell: u16) -> bool
-    ensures { result ≡ in_zone_of sectors (record { from = from; end = end }) cell }
+// Whether the cell is in a ring and a sector of the zone.
+#[tactic(auto, unfolding(crate::specs::Zones::in_zone_of))]
+fn in_zone(zone: Zone, cell: u16) -> bool
+    ensures { result ≡ in_zone_of sectors (record { from = zone.from; end = zone.end }) cell }
 {
-    if 6 <= cells::ring(cell) {
-        return false;
-    }
     let sector = cells::sector(cell);
-    if sector < from {
-        return false;
-    }
-    sector < end
+    cells::ring(cell) < 6 && zone.from <= sector && sector < zone.end
 }

@@ -1,13 +1,13 @@
 -- The lines of the groups, one after the other. The lines from the arrays that window_groups gives are those of the groups,
 -- since the arrays hold for each cell what the definition takes from its group; and a line has at most 19 bytes.
-use Prim.Native.Nat.{ℕ, zero, suc, ◌+◌, ◌≤◌, ◌<◌}
+use Prim.Native.Nat.{ℕ, zero, suc, ◌+◌, ◌*◌, ◌≤◌, ◌<◌}
 use mathlib.Core.Path.{◌≡◌, refl, ap, ◌∙◌}
 use mathlib.Core.Bool.{Bool, true, false}
 use mathlib.Core.List.{List, [], ◌∷◌, ◌++◌, append_assoc, append-nil}
 use native.Mathlib.Nat.{add-zero, zero-add}
 use native.Mathlib.Numerals.{add-one}
 use native.Mathlib.Omega.{arith}
-use lib.ListN.{length, get_or}
+use lib.ListN.{length, get_or, length-append}
 use Rattle.graph.specs.Forest.{Labelled}
 use Rattle.forest.specs.Arrays.{count_from}
 use Rattle.forest.proofs.Fill.{get_d_each}
@@ -28,6 +28,10 @@ unfolding count_from
 count_more i zero = rw add-zero
 count_more i (suc n) =
     ap (λ (l : List ℕ). i ∷ l) (count_more (suc i) n ∙ ap (λ (k : ℕ). count_from (suc i) n ++ k ∷ []) (omega arith))
+
+pub lines_none : (text : ℕ → List ℕ) → lines_of text (count_from 0 0) ≡ []
+unfolding lines_of count_from
+lines_none text = refl
 
 pub lines_more : (text : ℕ → List ℕ) (c : ℕ) → lines_of text (count_from 0 (c + 1)) ≡ lines_of text (count_from 0 c) ++ text c
 unfolding lines_of
@@ -51,6 +55,15 @@ array_line_short firsts {counts} {holds} small c h = go (leads c (get_or firsts 
     go : (t : Bool) → length (group_line_if t c (get_or counts c 0) (get_or holds c 0)) ≤ 19
     go true = group_line_short c (get_or counts c 0) (get_or holds c 0) h (small.count_most c h) (small.hold_most c h)
     go false = omega arith
+
+-- and so are the lines of the first cells
+pub lines_short : (firsts : List ℕ) {counts holds : List ℕ} → FewDigits counts holds → (n : ℕ) → n ≤ cells
+    → length (lines_of (line_from_arrays firsts counts holds) (count_from 0 n)) ≤ 19 * n
+lines_short firsts {counts} {holds} small zero h = rw lines_none (omega arith)
+lines_short firsts {counts} {holds} small (suc n) h =
+    let line = array_line_short firsts small n (omega arith) in
+    let before = lines_short firsts small n (omega arith) in
+    rw (← (add-one n), lines_more (line_from_arrays firsts counts holds) n, length-append) (omega (arith, line, before))
 
 -- ---- the groups of a window
 

@@ -1,12 +1,12 @@
 -- No line is long: its values have few digits.
 use Prim.Native.Nat.{ℕ, ◌^◌, ◌≤◌, ◌<◌}
-use mathlib.Core.List.{[], ◌∷◌}
+use mathlib.Core.List.{[], ◌∷◌, ◌++◌}
 use native.Mathlib.Omega.{arith}
-use lib.ListN.{length}
+use lib.ListN.{length, length-append}
 use Rattle.slides.specs.Counter.{tick_limit}
-use Rattle.text.specs.Text.{line}
+use Rattle.text.specs.Text.{blank, line_feed, fields, line}
 use Rattle.text.proofs.Decimal.{fields_length, field_short, line_length}
-use Rattle.listing.specs.Lines.{window_word, group_word, links_word, refused_word}
+use Rattle.listing.specs.Lines.{window_word, group_word, links_word, refused_word, file_word, refused_file}
 
 -- a group's line has at most 19 bytes
 pub group_line_short : (c count hold : ℕ) → c < 1024 → count ≤ 1024 → hold ≤ 16
@@ -30,8 +30,15 @@ window_line_short n b mounting slide p q r s =
 pub links_line_short : (count : ℕ) → count ≤ 4096 → length (line links_word (count ∷ [])) ≤ 11
 links_line_short count h = omega (arith, line_length links_word (count ∷ []), field_short 3 count (omega arith))
 
-pub refused_line_short : (number place : ℕ) → number < 2 ^ 8 → place < 2 ^ 32 → length (line refused_word (number ∷ place ∷ [])) ≤ 23
+pub refused_fields_short : (number : ℕ) → number < 256 → length (refused_word ++ fields (number ∷ [])) ≤ 11
+refused_fields_short number h = omega (arith, field_short 2 number (omega arith))
+
+pub refused_file_short : (number : ℕ) → number < 256 → length (refused_file number) ≤ 17
+refused_file_short number h =
+    omega (arith, field_short 2 number (omega arith), length-append (fields (number ∷ [])) (blank ∷ file_word ++ line_feed ∷ []))
+
+pub refused_line_short : (number place : ℕ) → number < 2 ^ 32 → place < 2 ^ 32 → length (line refused_word (number ∷ place ∷ [])) ≤ 30
 refused_line_short number place p q =
     let sum = line_length refused_word (number ∷ place ∷ []) in
     let after-number = fields_length number (place ∷ []) in
-    omega (arith, field_short 2 number (omega arith), field_short 9 place (omega arith))
+    omega (arith, field_short 9 number (omega arith), field_short 9 place (omega arith))

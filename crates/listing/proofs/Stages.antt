@@ -5,8 +5,13 @@ use mathlib.Core.Path.{◌≡◌, refl, sym, ap, ◌∙◌}
 use mathlib.Core.Bool.{Bool, true, false}
 use mathlib.Core.List.{List}
 use native.Mathlib.Omega.{arith}
+use borrow.Author.Tests.{le-leb}
 use lib.Dec.{leb}
 use lib.ListN.{length, drop, replicate, length-append}
+use Rattle.std.proofs.Common.{Result, Ok, Err}
+use Rattle.std.specs.Result.{result_unwrap_or}
+use Rattle.std.proofs.lemmas.List.Edits.{sets}
+use Rattle.refusals.specs.declared.Refusal.{Refusal}
 use Rattle.file.specs.Format.{read_of}
 use Rattle.file.specs.declared.Reading.{Reading}
 use Rattle.settings.specs.declared.Settings.{Settings}
@@ -18,7 +23,8 @@ use Rattle.listing.specs.declared.ListAnswer.{ListAnswer}
 use Rattle.file_play.specs.declared.PlayAnswer.{PlayAnswer}
 use Rattle.listing.specs.Lines.{refused_file, refused_record}
 use Rattle.file_play.specs.Play.{Play, GivesPlay, play_from}
-use Rattle.listing.specs.Listing.{GivesListing, book_text, played_text, opened_text, read_text, listing_text, output_places, listed_if, listing_of}
+use Rattle.listing.specs.Listing.{GivesListing, book_text, played_text, opened_text, read_text, listing_text, output_places, told, listed_if, listing_of}
+use Rattle.text.proofs.Writing.{sets_front}
 use Rattle.file_play.proofs.Playing.{Ready, opening_ready, played_ready}
 
 -- the length that is given is within the output
@@ -30,6 +36,17 @@ listed_within file out l = rw (l.answered, l.written) (within (leb output_places
     within : (t : Bool) → (listed_if t (listing_text file) out).answer.length ≤ length (listed_if t (listing_text file) out).output
     within true = omega (arith, length-append (listing_text file) (drop (length (listing_text file)) out))
     within false = omega arith
+
+pub length_within : (file out : List ℕ) (listed : Result ℕ Refusal) {out' : List ℕ} → GivesListing (listing_of file out) (told listed) out'
+    → result_unwrap_or listed 0 ≤ length out'
+length_within file out (Ok n) l = listed_within file out l
+length_within file out (Err refusal) l = omega arith
+
+-- the text from the front of an output that has room for every listing
+pub listed : (file out : List ℕ) → output_places ≤ length out → length (listing_text file) ≤ length out
+    → GivesListing (listing_of file out) (record { length = length (listing_text file); number = 0 }) (sets out 0 (listing_text file))
+unfolding listing_of listed_if
+listed file out room fits = rw (le-leb _ _ room) (record { answered = refl; written = sets_front (listing_text file) out fits })
 
 -- the text of a number that is not 0
 refused_read : (k : ℕ) (file : List ℕ) (r : Reading) → ¬ (k ≡ 0) → read_text k file r ≡ refused_file k

@@ -1,9 +1,11 @@
 -- What kerblist prints for a file (RULES 8), as bytes.
-use Rattle.std.specs.Prelude.{ℕ, zero, suc, ◌≡◌, Bool, true, false, [], ◌∷◌, ◌++◌, leb, length, replicate}
+use Rattle.std.specs.Prelude.{ℕ, zero, suc, ◌≡◌, Bool, true, false, [], ◌∷◌, ◌++◌, leb, length, replicate, Result, Ok, Err}
 use Rattle.numbers.specs.Front.{at_front}
 use Rattle.numbers.specs.Kinds.{Bytes, Counts, Log, Number}
 use Rattle.slides.specs.Clock.{open_slide_of}
 use Rattle.slides.specs.declared.Clock.{Clock}
+use Rattle.refusals.specs.declared.Refusal.{Refusal}
+use Rattle.refusals.specs.Number.{code_of}
 use Rattle.file.specs.Format.{read_of}
 use Rattle.file.specs.declared.Reading.{Reading}
 use Rattle.book_state.specs.declared.Book.{Book}
@@ -58,6 +60,11 @@ listing_text file =
 -- how many bytes the output must have
 abbrev pub output_places : ℕ
 output_places = 20480
+
+-- what is told through the interface: the number of the table, and with 0 how many bytes the text has
+abbrev pub told : Result ℕ Refusal → ListAnswer
+told (Ok length) = record { length = length; number = 0 }
+told (Err refusal) = record { length = 0; number = code_of refusal }
 
 -- what is given, and what the output holds afterwards
 pub record Listing : Type 0 where

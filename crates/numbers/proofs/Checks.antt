@@ -52,10 +52,6 @@ pub unless_passed : (t : Bool) (k : ℕ) → unless t (suc k) ≡ 0 → t ≡ tr
 unless_passed true k e = refl
 unless_passed false k e = absurd (omega arith)
 
-pub unless_failed : (t : Bool) (k : ℕ) → (unless t k ≡ 0 → ⊥) → t ≡ false
-unless_failed true k failed = absurd (failed refl)
-unless_failed false k failed = refl
-
 pub first_last : (k : ℕ) → first_of (k ∷ []) ≡ k
 unfolding first_of
 first_last zero = refl

@@ -3,7 +3,7 @@
 -- A contract that is one claim (or two), the same at every model, allows a result exactly where the claim holds of it; so it is enough
 -- to show that the claim holds of the definition's result and of no other. Where a contract allows one result alone, two that it
 -- allows are equal; and code that meets it meets every demand that the definition meets, by the rule of consequence.
-use mathlib.Core.Path.{◌≡◌, refl, sym, subst, subst⁻¹, ◌∙◌}
+use mathlib.Core.Path.{◌≡◌, sym, subst, subst⁻¹, ◌∙◌}
 use base.Logic.{ent, sep, emp, id⊢, via, mono∗, mono_r, fst∗, snd∗, emp∗}
 use types.Logic.{sem}
 use contract.Monad.{fact, fact_i, fact_mono, fact_use}
@@ -115,6 +115,29 @@ single_claim f {P} reads one w κs a g r s =
     (λ p. via w.𝓤 (fact w.𝓤 (P κs a s.0 (left s.1)))
     (subst (λ C. ent w.𝓤 (sep w.𝓤 A B) C) (reads w κs a g s.0 (left s.1)) (snd∗ w.𝓤 A B))
     (fact_mono w.𝓤 (P κs a s.0 (left s.1)) (r ≡ s) (one κs a r s p)))
+
+-- and one that makes two
+pub single_claims : (f : Exported) {P Q : Claim f} →
+    ((w : World) (κs : Lifetimes f) (a : Given f κs) (g : (contract_at f w κs a).ghost) (r : Returned f κs) (e : Left f κs) →
+    (contract_at f w κs a).ensures g r e ≡ sep w.𝓤 (fact w.𝓤 (P κs a r e)) (fact w.𝓤 (Q κs a r e))) →
+    ((κs : Lifetimes f) (a : Given f κs) (r s : Result f κs a) →
+    P κs a r.0 (at_exit f.ended κs a r.1) × Q κs a r.0 (at_exit f.ended κs a r.1) →
+    P κs a s.0 (at_exit f.ended κs a s.1) × Q κs a s.0 (at_exit f.ended κs a s.1) → r ≡ s) → SingleResult f
+single_claims f {P} {Q} reads one w κs a g r s =
+    let A = allows f w κs a (contract_at f w κs a) g r in
+    let B = allows f w κs a (contract_at f w κs a) g s in
+    let left : Lasts f.ended κs a → Left f κs = at_exit f.ended κs a in
+    let Pr = fact w.𝓤 (P κs a r.0 (left r.1)) in
+    let Qr = fact w.𝓤 (Q κs a r.0 (left r.1)) in
+    let Ps = fact w.𝓤 (P κs a s.0 (left s.1)) in
+    let Qs = fact w.𝓤 (Q κs a s.0 (left s.1)) in
+    let of_r = subst (λ C. ent w.𝓤 (sep w.𝓤 A B) C) (reads w κs a g r.0 (left r.1)) (fst∗ w.𝓤 A B) in
+    let of_s = subst (λ C. ent w.𝓤 (sep w.𝓤 A B) C) (reads w κs a g s.0 (left s.1)) (snd∗ w.𝓤 A B) in
+    fact_use w.𝓤 (P κs a r.0 (left r.1)) (via w.𝓤 (sep w.𝓤 Pr Qr) of_r (fst∗ w.𝓤 Pr Qr))
+    (λ p. fact_use w.𝓤 (Q κs a r.0 (left r.1)) (via w.𝓤 (sep w.𝓤 Pr Qr) of_r (snd∗ w.𝓤 Pr Qr))
+    (λ p'. fact_use w.𝓤 (P κs a s.0 (left s.1)) (via w.𝓤 (sep w.𝓤 Ps Qs) of_s (fst∗ w.𝓤 Ps Qs))
+    (λ q. via w.𝓤 Qs (via w.𝓤 (sep w.𝓤 Ps Qs) of_s (snd∗ w.𝓤 Ps Qs))
+    (fact_mono w.𝓤 (Q κs a s.0 (left s.1)) (r ≡ s) (λ q'. one κs a r s (p, p') (q, q'))))))
 
 -- ---- for whoever has a pledge
 

@@ -1,30 +1,55 @@
--- Each of these contracts is one claim. All but two are records of equations, one for each part of the result; a book's fields that are
--- lent stand in one equation, that of the book. The crossing's says what yes means and what no means, and the two exclude each other; that
--- of the buckets says which entry stands at each place, and there is only one.
-use Prim.Native.Nat.{ℕ}
-use mathlib.Core.Path.{◌≡◌, refl, sym, ◌∙◌}
-use mathlib.Core.List.{List, []}
-use Rattle.cells.specs.declared.Fitting.{Fitting}
-use Rattle.book_state.specs.declared.Book.{Book}
+-- Each of these contracts is one claim, or two. Most are equations, one for each part of the result; a Result is told by an equation for what the
+-- interface tells of it, its number among that, and no two Results are told alike (`refusals`, proofs/Told). The crossing's says what yes means and
+-- what no means, and the two exclude each other; that of the buckets says which entry stands at each place, and there is only one.
+use Rattle.std.proofs.Common.{◌≡◌, ℕ, refl, sym, ap, ◌∙◌, Option, Some, None, is_some, unwrap_or, Result, Ok, Err, MatchOption, arith, ◌≤◌}
+use mathlib.Core.Bool.{true≢false, false≢true}
+use Rattle.refusals.specs.declared.Refusal.{Refusal}
+use Rattle.refusals.proofs.Told.{never_0, one_refusal, one_answer, one_number}
 use Rattle.book.specs.Calls.{Answer}
-use Rattle.book.specs.declared.fields.FieldsAnswer.{FieldsAnswer}
+use Rattle.book_joined.specs.declared.Joined.{Joined}
+use Rattle.chain.specs.Chain as chain
+use Rattle.chain.specs.declared.Chain.{Chain}
+use Rattle.file.specs.declared.Contents.{Contents}
+use Rattle.file_record.specs.declared.Record.{Record}
+use Rattle.file_play.specs.declared.PlayAnswer.{PlayAnswer}
+use Rattle.groups.specs.Call as groups
+use Rattle.lamps.specs.Lamps as lamps
+use Rattle.lamps.specs.declared.Lamps.{Lamps}
+use Rattle.lamps.specs.declared.LampsAnswer.{LampsAnswer}
+use Rattle.listing.specs.Listing as listing
+use Rattle.text_list.proofs.Told.{one_text_in, one_text_out}
+use Rattle.book_joined.specs.Told as joined
+use Rattle.file.specs.Format.{reading_of}
+use Rattle.file_record.specs.Record.{answer_of}
+use Rattle.file_play.specs.declared.Stopped.{Stopped}
+use Rattle.file_play.specs.Play.{played}
 use Rattle.buckets.proofs.Listing.{one_listing}
-use Rattle.forest_cross.proofs.Joined.{one_answer}
+use Rattle.forest_cross.proofs.Joined as crossing
+use Rattle.window.proofs.Gathered.{put_single}
 use Rattle.pledges.specs.Pledges.{◌▸◌}
 use Rattle.pledges.specs.Single.{
   freshen_fn,
   move_to_fn,
-  fields_opening_fn,
+  opening_fn,
+  clock_fn,
   link_fn,
   link_in_order_fn,
-  fields_clock_fn,
+  judge_fn,
+  read_fn,
+  pack_fn,
+  unpack_fn,
+  judge_write_fn,
+  write_fn,
   gather_fn,
   gather_newest_fn,
+  newest_label_fn,
   best_trail_fn,
-  chain_over_fn,
-  play_over_fn,
+  between_fn,
+  ask_fn,
+  lamps_fn,
+  play_fn,
   play_file_fn,
-  groups_over_fn,
+  put_fn,
   put_decimal_fn,
   put_word_fn,
   put_fields_fn,
@@ -37,77 +62,119 @@ use Rattle.pledges.specs.Single.{
   joined_across_fn,
   Single,
 }
-use Rattle.pledges.proofs.Exported.{single_claim}
+use Rattle.pledges.proofs.Exported.{single_claim, single_claims}
 
 -- two that equal a third
 equal : {A : Type 0} {x y z : A} → x ≡ z → y ≡ z → x ≡ y
 equal p q = p ∙ sym q
 
--- the arrays of a book, each lent as it stands, and what was lent after them
-abbrev arrays : {X : Type 0} → Book → X → List ℕ × (List ℕ × (List ℕ × (List ℕ × (List ℕ × (List ℕ × X)))))
-arrays b rest = b.counts ▸ b.forward_parent ▸ b.forward_size ▸ b.backward_parent ▸ b.backward_size ▸ b.backward_label ▸ rest
+-- ---- no two Results are told alike
 
-abbrev answer_of : Answer → FieldsAnswer
-answer_of o = record { clock = o.book.clock; fitting = o.book.fitting; number = o.number }
+one_reading : (a b : Result Contents Refusal) → reading_of a ≡ reading_of b → a ≡ b
+one_reading = one_answer reading_of (λ o. o.number) (λ x. refl) (λ r. refl) λ x y e i. record { settings = (e i).settings; m = (e i).m }
+
+one_record : (a b : Result Record Refusal) → answer_of a ≡ answer_of b → a ≡ b
+one_record = one_answer answer_of (λ o. o.number) (λ x. refl) (λ r. refl) λ x y e i. record { tick = (e i).tick; one = (e i).one; other = (e i).other }
+
+one_joined : (a b : Result Joined Refusal) → joined.told a ≡ joined.told b → a ≡ b
+one_joined = one_answer joined.told (λ o. o.number) (λ x. refl) (λ r. refl) λ x y e i. record { yes = (e i).yes; steps = (e i).steps }
+
+one_chain : (a b : Result Chain Refusal) → chain.told a ≡ chain.told b → a ≡ b
+one_chain = one_answer chain.told (λ o. o.number) (λ x. refl) (λ r. refl) λ x y e i. record { newest = (e i).newest; cells = (e i).cells; hold = (e i).hold }
+
+one_groups : (a b : Result ℕ Refusal) → groups.told a ≡ groups.told b → a ≡ b
+one_groups = one_answer groups.told (λ o. o.number) (λ x. refl) (λ r. refl) λ x y e i. (e i).links
+
+one_list : (a b : Result ℕ Refusal) → listing.told a ≡ listing.told b → a ≡ b
+one_list = one_answer listing.told (λ o. o.number) (λ x. refl) (λ r. refl) λ x y e i. (e i).length
+
+-- a lamp is told by whether it is lit, and by its cell
+one_lamp : (a b : Option ℕ) → is_some a ≡ is_some b → unwrap_or a 0 ≡ unwrap_or b 0 → a ≡ b
+one_lamp None None lit cell = refl
+one_lamp None (Some y) lit cell = absurd (false≢true lit)
+one_lamp (Some x) None lit cell = absurd (true≢false lit)
+one_lamp (Some x) (Some y) lit cell = ap Some cell
+
+one_lamps : (a b : Result Lamps Refusal) → lamps.told a ≡ lamps.told b → a ≡ b
+one_lamps = one_answer lamps.told (λ o. o.number) (λ x. refl) (λ r. refl) λ x y e i.
+    record {
+      left = one_lamp x.left y.left (ap (λ (o : LampsAnswer). o.left) e) (ap (λ (o : LampsAnswer). o.left_cell) e) i;
+      right = one_lamp x.right y.right (ap (λ (o : LampsAnswer). o.right) e) (ap (λ (o : LampsAnswer). o.right_cell) e) i;
+    }
+
+-- what stops playing is told by its number and its place
+one_play : (a b : Result ℕ Stopped) → played a ≡ played b → a ≡ b
+one_play (Ok x) (Ok y) e = ap (λ (o : PlayAnswer). Ok o.taken) e
+one_play (Ok x) (Err s) e = absurd (never_0 s.refusal (sym (ap (λ (o : PlayAnswer). o.number) e)))
+one_play (Err r) (Ok y) e = absurd (never_0 r.refusal (ap (λ (o : PlayAnswer). o.number) e))
+one_play (Err r) (Err s) e = λ i. Err (record { taken = (e i).taken; refusal = one_refusal r.refusal s.refusal (ap (λ (o : PlayAnswer). o.number) e) i })
+
+-- of the newest label it is said that there is none exactly where the definition's is 0, and else that it is the definition's
+one_label : (label : ℕ) (a b : Option ℕ) → MatchOption a (label ≡ 0) (λ newest. (newest ≡ label) × (1 ≤ newest))
+    → MatchOption b (label ≡ 0) (λ newest. (newest ≡ label) × (1 ≤ newest)) → a ≡ b
+one_label label None None p q = refl
+one_label label None (Some y) p q = absurd (omega (arith, p, q.0, q.1))
+one_label label (Some x) None p q = absurd (omega (arith, p.0, p.1, q))
+one_label label (Some x) (Some y) p q = ap Some (p.0 ∙ sym q.0)
+
+-- ---- the contracts
 
 pub single : Single
 single =
     record {
-      book_time_freshen = single_claim freshen_fn (λ w κs a g r e. refl) λ κs a r s p q i.
-          tt ▸ equal p.forward_parents q.forward_parents i ▸ equal p.forward_sizes q.forward_sizes i
-          ▸ equal p.backward_parents q.backward_parents i ▸ equal p.backward_sizes q.backward_sizes i
-          ▸ equal p.backward_labels q.backward_labels i ▸ tt;
-      book_time_move_to = single_claim move_to_fn (λ w κs a g r e. refl) λ κs a r s p q i.
-          let none : Fitting = record { mounting = 0; pad = [] } in
-          let b : Book = equal (p none) (q none) i in
-          b.clock ▸ tt ▸ arrays b (tt ▸ tt ▸ tt);
-      book_fields_opening = single_claim fields_opening_fn (λ w κs a g r e. refl) λ κs a r s p q i.
-          let o : Answer = equal p.answered q.answered i in
-          answer_of o ▸ tt ▸ tt ▸ arrays o.book (equal p.logged q.logged i ▸ tt ▸ tt);
+      book_time_freshen = single_claim freshen_fn (λ w κs a g r e. refl) λ κs a r s p q i. tt ▸ equal p q i ▸ tt;
+      book_time_move_to = single_claim move_to_fn (λ w κs a g r e. refl) λ κs a r s p q i. tt ▸ equal p q i ▸ tt ▸ tt ▸ tt;
+      book_opening = single_claim opening_fn (λ w κs a g r e. refl) λ κs a r s p q i.
+          let o : ◌≡◌ {A = Answer} _ _ = equal p.answered q.answered in
+          one_number r.0 s.0 (ap (λ (o : Answer). o.number) o) i ▸ (o i).book ▸ equal p.logged q.logged i ▸ tt ▸ tt;
+      book_clock = single_claim clock_fn (λ w κs a g r e. refl) λ κs a r s p q i.
+          let o : ◌≡◌ {A = Answer} _ _ = equal p.answered q.answered in
+          one_number r.0 s.0 (ap (λ (o : Answer). o.number) o) i ▸ (o i).book ▸ tt ▸ tt ▸ tt;
       book_link_link = single_claim link_fn (λ w κs a g r e. refl) λ κs a r s p q i.
-          let o : Answer = equal p.answered q.answered i in
-          answer_of o ▸ tt ▸ tt ▸ arrays o.book (equal p.logged q.logged i ▸ tt ▸ tt ▸ tt ▸ tt);
+          let o : ◌≡◌ {A = Answer} _ _ = equal p.answered q.answered in
+          one_number r.0 s.0 (ap (λ (o : Answer). o.number) o) i ▸ (o i).book ▸ equal p.logged q.logged i ▸ tt ▸ tt ▸ tt ▸ tt;
       book_link_link_in_order = single_claim link_in_order_fn (λ w κs a g r e. refl) λ κs a r s p q i.
-          let o : Answer = equal p.answered q.answered i in
-          answer_of o ▸ tt ▸ tt ▸ tt ▸ tt ▸ tt ▸ arrays o.book (equal p.logged q.logged i ▸ tt);
-      book_fields_clock = single_claim fields_clock_fn (λ w κs a g r e. refl) λ κs a r s p q i.
-          let o : Answer = equal p.answered q.answered i in
-          answer_of o ▸ tt ▸ tt ▸ arrays o.book (tt ▸ tt ▸ tt);
+          let o : ◌≡◌ {A = Answer} _ _ = equal p.answered q.answered in
+          one_number r.0 s.0 (ap (λ (o : Answer). o.number) o) i ▸ (o i).book ▸ equal p.logged q.logged i ▸ tt ▸ tt ▸ tt ▸ tt;
+      settings_judge = single_claim judge_fn (λ w κs a g r e. refl) λ κs a r s p q i. one_number r.0 s.0 (equal p q) i ▸ tt ▸ tt;
+      file_read = single_claim read_fn (λ w κs a g r e. refl) λ κs a r s p q i. one_reading r.0 s.0 (equal p q) i ▸ tt ▸ tt;
+      file_record_pack = single_claims pack_fn (λ w κs a g r e. refl) λ κs a r s p q i.
+          one_number r.0 s.0 (equal p.0 q.0) i ▸ tt ▸ equal p.1 q.1 i ▸ tt;
+      file_record_unpack = single_claim unpack_fn (λ w κs a g r e. refl) λ κs a r s p q i. one_record r.0 s.0 (equal p q) i ▸ tt ▸ tt ▸ tt;
+      file_write_judge_write = single_claim judge_write_fn (λ w κs a g r e. refl) λ κs a r s p q i. one_number r.0 s.0 (equal p q) i ▸ tt ▸ tt ▸ tt ▸ tt;
+      file_write_write = single_claims write_fn (λ w κs a g r e. refl) λ κs a r s p q i.
+          one_number r.0 s.0 (equal p.0 q.0) i ▸ tt ▸ tt ▸ equal p.1 q.1 i ▸ tt;
       window_gather = single_claim gather_fn (λ w κs a g r e. refl) λ κs a r s p q i.
-          equal p.until q.until i ▸ tt ▸ tt ▸ tt ▸ equal p.first q.first i ▸ equal p.second q.second i ▸ equal p.third q.third i ▸ tt;
+          tt ▸ tt ▸ put_single a.1.0.now r.1.1.0 s.1.1.0 p q i ▸ tt;
       window_gather_newest = single_claim gather_newest_fn (λ w κs a g r e. refl) λ κs a r s p q i.
-          equal p.until q.until i ▸ tt ▸ tt ▸ tt ▸ tt ▸ equal p.first q.first i ▸ equal p.second q.second i ▸ equal p.third q.third i ▸ tt;
+          tt ▸ tt ▸ tt ▸ put_single a.1.1.0.now r.1.1.1.0 s.1.1.1.0 p q i ▸ tt;
+      chain_newest_newest_label = single_claim newest_label_fn (λ w κs a g r e. refl) λ κs a r s p q i. one_label _ r.0 s.0 p q i ▸ tt ▸ tt ▸ tt ▸ tt;
       chain_fewest_best_trail = single_claim best_trail_fn (λ w κs a g r e. refl) λ κs a r s p q i.
           equal p.count q.count i ▸ tt ▸ tt ▸ tt ▸ tt ▸ equal p.buffer q.buffer i ▸ tt;
-      chain_over_fields = single_claim chain_over_fn (λ w κs a g r e. refl) λ κs a r s p q i.
-          equal p.answered q.answered i ▸ tt ▸ tt ▸ tt ▸ tt ▸ tt ▸ tt ▸ tt ▸ tt ▸ tt ▸ tt ▸ tt ▸ equal p.written q.written i ▸ tt;
-      file_play_over_fields = single_claim play_over_fn (λ w κs a g r e. refl) λ κs a r s p q i.
-          let b : Book = equal p.kept q.kept i in
-          record { clock = b.clock; fitting = b.fitting; answer = equal p.answered q.answered i } ▸ tt ▸ tt ▸ arrays b (equal p.logged q.logged i ▸ tt ▸ tt ▸ tt);
+      chain_between = single_claim between_fn (λ w κs a g r e. refl) λ κs a r s p q i.
+          one_chain r.0 s.0 (equal p.answered q.answered) i ▸ tt ▸ tt ▸ tt ▸ tt ▸ equal p.written q.written i ▸ tt;
+      book_joined_ask = single_claim ask_fn (λ w κs a g r e. refl) λ κs a r s p q i. one_joined r.0 s.0 (equal p q) i ▸ tt ▸ tt ▸ tt ▸ tt;
+      lamps_ask = single_claim lamps_fn (λ w κs a g r e. refl) λ κs a r s p q i. one_lamps r.0 s.0 (equal p q) i ▸ tt ▸ tt ▸ tt ▸ tt;
+      file_play_play = single_claim play_fn (λ w κs a g r e. refl) λ κs a r s p q i.
+          one_play r.0 s.0 (equal p.answered q.answered) i ▸ equal p.kept q.kept i ▸ equal p.logged q.logged i ▸ tt ▸ tt ▸ tt;
       file_play_play_file = single_claim play_file_fn (λ w κs a g r e. refl) λ κs a r s p q i.
-          let b : Book = equal p.kept q.kept i in
-          record { clock = b.clock; fitting = b.fitting; answer = equal p.answered q.answered i } ▸ tt ▸ tt ▸ arrays b (equal p.logged q.logged i ▸ tt ▸ tt);
-      groups_over_fields = single_claim groups_over_fn (λ w κs a g r e. refl) λ κs a r s p q i.
-          equal p.answered q.answered i ▸ tt ▸ tt ▸ tt ▸ tt ▸ tt ▸ tt ▸ tt ▸ tt ▸ tt ▸ equal p.firsts q.firsts i
-          ▸ equal p.sizes q.sizes i ▸ equal p.holds q.holds i ▸ tt;
-      text_put_decimal = single_claim put_decimal_fn (λ w κs a g r e. refl) λ κs a r s p q i.
-          equal p.until q.until i ▸ tt ▸ equal p.bytes q.bytes i ▸ tt ▸ tt;
-      text_put_word = single_claim put_word_fn (λ w κs a g r e. refl) λ κs a r s p q i.
-          equal p.until q.until i ▸ tt ▸ equal p.bytes q.bytes i ▸ tt ▸ tt;
-      text_put_fields = single_claim put_fields_fn (λ w κs a g r e. refl) λ κs a r s p q i.
-          equal p.until q.until i ▸ tt ▸ tt ▸ equal p.bytes q.bytes i ▸ tt ▸ tt;
-      text_put_line = single_claim put_line_fn (λ w κs a g r e. refl) λ κs a r s p q i.
-          equal p.until q.until i ▸ tt ▸ tt ▸ equal p.bytes q.bytes i ▸ tt ▸ tt;
+          one_play r.0 s.0 (equal p.answered q.answered) i ▸ equal p.kept q.kept i ▸ equal p.logged q.logged i ▸ tt ▸ tt;
+      groups_put = single_claim put_fn (λ w κs a g r e. refl) λ κs a r s p q i.
+          one_groups r.0 s.0 (equal p.answered q.answered) i ▸ tt ▸ tt ▸ equal p.firsts q.firsts i ▸ equal p.sizes q.sizes i ▸ equal p.holds q.holds i ▸ tt;
+      text_put_decimal = single_claim put_decimal_fn (λ w κs a g r e. refl) λ κs a r s p q i. tt ▸ equal p q i ▸ tt ▸ tt;
+      text_put_word = single_claim put_word_fn (λ w κs a g r e. refl) λ κs a r s p q i. tt ▸ equal p q i ▸ tt ▸ tt;
+      text_put_fields = single_claim put_fields_fn (λ w κs a g r e. refl) λ κs a r s p q i. tt ▸ equal p q i ▸ tt ▸ tt ▸ tt;
+      text_put_line = single_claim put_line_fn (λ w κs a g r e. refl) λ κs a r s p q i. tt ▸ equal p q i ▸ tt ▸ tt ▸ tt;
       listing_list_lem = single_claim list_fn (λ w κs a g r e. refl) λ κs a r s p q i.
-          equal p.answered q.answered i ▸ tt ▸ equal p.written q.written i ▸ tt;
+          one_list r.0 s.0 (equal p.answered q.answered) i ▸ tt ▸ equal p.written q.written i ▸ tt;
       text_in_text_in = single_claim text_in_fn (λ w κs a g r e. refl) λ κs a r s p q i.
-          equal p.answered q.answered i ▸ tt ▸ tt ▸ equal p.written q.written i ▸ tt;
+          one_text_in r.0 s.0 (equal p.answered q.answered) i ▸ tt ▸ tt ▸ equal p.written q.written i ▸ tt;
       text_out_text_out = single_claim text_out_fn (λ w κs a g r e. refl) λ κs a r s p q i.
-          equal p.answered q.answered i ▸ tt ▸ equal p.written q.written i ▸ tt;
+          one_text_out r.0 s.0 (equal p.answered q.answered) i ▸ tt ▸ equal p.written q.written i ▸ tt;
       forest_unite_unite = single_claim unite_fn (λ w κs a g r e. refl) λ κs a r s p q i.
           tt ▸ equal p.parents q.parents i ▸ equal p.sizes q.sizes i ▸ equal p.labels q.labels i ▸ tt ▸ tt ▸ tt ▸ tt ▸ tt;
       buckets_list_entries = single_claim list_entries_fn (λ w κs a g r e. refl) λ κs a r s p q i.
           let e = one_listing p q in tt ▸ tt ▸ e.0 i ▸ e.1 i ▸ tt;
       forest_cross_joined_across = single_claim joined_across_fn (λ w κs a g r e. refl) λ κs a r s p q i.
-          one_answer r.0 s.0 p q i ▸ tt ▸ tt ▸ tt ▸ tt ▸ tt ▸ tt ▸ tt ▸ tt;
+          crossing.one_answer r.0 s.0 p q i ▸ tt ▸ tt ▸ tt ▸ tt ▸ tt ▸ tt ▸ tt ▸ tt;
     }

@@ -2,9 +2,11 @@
 #![tactic(auto)]
 
 ghost use Rattle.std.specs.Prelude.{◌≡◌};
+ghost use Rattle.refusals.specs.Number.{number_of};
 ghost use Rattle.settings.specs.Settings.{settings_number, fitting_of};
 
-use cells::Fitting;
+use cells::{Fitting, Mounting};
+use refusals::Refusal;
 
 #[repr(C)]
 #[derive(Clone, Copy)]
@@ -18,28 +20,16 @@ pub struct Settings {
     pub mounting: u8,
 }
 
-// 0, or 2 where n, B or the mounting is outside its values.
-pub fn judge(s: Settings) -> u8
-    ensures { result ≡ settings_number s }
+// Number 2 where n, B or the mounting is outside its values.
+pub fn judge(s: Settings) -> Result<(), Refusal>
+    ensures { number_of result ≡ settings_number s }
 {
-    let n = s.n;
-    let mounting = s.mounting;
-    if n < 1 {
-        return 2;
+    let taken = 1 <= s.n && s.n <= 16 && 1 <= s.b && Mounting::try_from(s.mounting).is_ok();
+    if taken {
+        Ok(())
+    } else {
+        Err(Refusal::Settings)
     }
-    if 16 < n {
-        return 2;
-    }
-    if s.b < 1 {
-        return 2;
-    }
-    if mounting == 1 {
-        return 0;
-    }
-    if mounting == 2 {
-        return 0;
-    }
-    2
 }
 
 // How the unit is fitted.

@@ -12,7 +12,6 @@ use lib.Dec.{eqb, leb, ltb}
 use borrow.Author.Tests.{lt-ltb, le-leb, ltb-true, leb-true, ne_eqb}
 use native.Mathlib.Nat.{le_refl, le_trans, zero-lt-suc, add-zero, zero-div, div-zero, div-le_self, div-mul-le_self, le-div_iff_mul-le, div-lt_iff_lt-mul, div-eq_of_lt-le, div-add-mod', mod-lt, eq-or-lt_of_le, mul-le-mul_right, add-mul}
 use native.Mathlib.Omega.{arith}
-use native.Mathlib.Decide.{dec_lt}
 use Rattle.settings.specs.Settings.{taken_number}
 use Rattle.settings.specs.declared.Settings.{Settings}
 use Rattle.slides.specs.declared.Clock.{Clock}
@@ -248,15 +247,6 @@ moved_in_range clock tick e = go _ refl
 module _ (b slide : ℕ) (some : 0 < b) where
   pub begins : slide ≤ total_most / b → slide * b ≤ total_most
   begins = (le-div_iff_mul-le some).0
-
-  pub never_begins : total_most / b < slide → total_most < slide * b
-  never_begins h = go (dec_lt total_most (slide * b))
-    where
-      go : Dec (total_most < slide * b) → total_most < slide * b
-      go (yes k) = k
-      go (no k) =
-          let most : slide * b ≤ total_most = omega (arith, k) in
-          absurd (omega (arith, h, (le-div_iff_mul-le some).1 most))
 
 -- where a slide has ticks, a total is of that slide exactly when it is one of its totals. Of a tick nothing of the kind can be said: the counter
 -- comes to it again with every turn

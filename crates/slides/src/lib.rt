@@ -44,28 +44,19 @@ pub fn start(s: Settings) -> Clock
 }
 
 // Whether the clock's numbers are such as a book may hold.
+#[tactic(auto, unfolding(crate::specs::Clock::clock_in_range))]
 pub fn in_range(clock: Clock) -> bool
     ensures { result ≡ clock_in_range clock }
 {
-    let n = clock.n;
-    let b = clock.b;
-    if n < 1 {
-        return false;
-    }
-    if 16 < n {
-        return false;
-    }
-    if b < 1 {
-        return false;
-    }
-    clock.total <= TOTAL_MOST
+    1 <= clock.n && clock.n <= 16 && 1 <= clock.b && clock.total <= TOTAL_MOST
 }
 
-// Where the counter stands when so many ticks have passed since T0.
+// Where the counter stands when so many ticks have passed since T0: it goes round.
+#[tactic(auto, unfolding(crate::specs::Counter::counter_at_of))]
 fn counter_at(t0: u32, total: u64) -> u32
     ensures { result ≡ counter_at_of t0 total }
 {
-    ((t0 as u64 + total % TURN) % TURN) as u32
+    t0.wrapping_add((total % TURN) as u32)
 }
 
 // The time: the latest tick that was taken.
@@ -76,61 +67,52 @@ pub fn time(clock: Clock) -> u32
 }
 
 // How far a tick is ahead of the time, as the counter goes.
+#[tactic(auto, unfolding(crate::specs::Counter::ahead, crate::specs::Counter::counter_at_of))]
 fn difference(clock: Clock, tick: u32) -> u32
     ensures { result ≡ difference_of clock tick }
 {
-    let time = time(clock) as u64;
-    ((tick as u64 + (TURN - time)) % TURN) as u32
+    tick.wrapping_sub(time(clock))
 }
 
 // Whether a tick becomes the time: it is less than half a turn ahead, and the total has room for that.
+#[tactic(auto, unfolding(crate::specs::Clock::not_before_of))]
 pub fn not_before(clock: Clock, tick: u32) -> bool
     ensures { result ≡ not_before_of clock tick }
 {
     let more = difference(clock, tick);
-    let total = clock.total;
-    if HALF_TURN <= more {
-        return false;
-    }
-    if TOTAL_MOST < total {
-        return false;
-    }
-    more as u64 <= TOTAL_MOST - total
+    more < HALF_TURN && clock.total <= TOTAL_MOST && more as u64 <= TOTAL_MOST - clock.total
 }
 
 // The total that a tick makes. A tick that is before the time adds nothing.
+#[tactic(auto, unfolding(crate::specs::Clock::not_before_of, crate::specs::Clock::total_with_of))]
 pub fn total_with(clock: Clock, tick: u32) -> u64
     ensures { result ≡ total_with_of clock tick }
 {
-    let total = clock.total;
     if !not_before(clock, tick) {
-        return total;
+        return clock.total;
     }
-    total + difference(clock, tick) as u64
+    clock.total + difference(clock, tick) as u64
 }
 
 // The slide of the total that a tick makes. 0 for a slide of 0 ticks, which no book in range meets.
+#[tactic(auto, unfolding(crate::specs::Clock::slide_of))]
 pub fn slide(clock: Clock, tick: u32) -> u64
     ensures { result ≡ slide_of clock tick }
 {
-    let b = clock.b as u64;
-    if b == 0 {
-        return 0;
-    }
-    total_with(clock, tick) / b
+    total_with(clock, tick)
+        .checked_div(clock.b as u64)
+        .unwrap_or(0)
 }
 
+#[tactic(auto, unfolding(crate::specs::Clock::open_slide_of))]
 pub fn open_slide(clock: Clock) -> u64
     ensures { result ≡ open_slide_of clock }
 {
-    let b = clock.b as u64;
-    if b == 0 {
-        return 0;
-    }
-    clock.total / b
+    clock.total.checked_div(clock.b as u64).unwrap_or(0)
 }
 
-// The totals of a slide, from the first to the last, where the counter stands at these two, and whether there are any; else all are 0.
+// The totals of a slide, from the first to the last, where the counter stands at these two, and whether there are any; else all are 0. The flag is
+// the C interface's (`kerb_slide_ticks` gives this struct).
 #[repr(C)]
 #[derive(Clone, Copy)]
 pub struct SlideTicks {
@@ -141,6 +123,7 @@ pub struct SlideTicks {
     pub exists: bool,
 }
 
+#[tactic(auto, unfolding(crate::specs::Clock::ticks_if))]
 pub fn ticks(clock: Clock, slide: u64) -> SlideTicks
     ensures { result ≡ ticks_of clock slide }
 {
@@ -148,18 +131,15 @@ pub fn ticks(clock: Clock, slide: u64) -> SlideTicks
     if b == 0 {
         return no_ticks();
     }
-    // The slide of the largest total.
-    let latest = TOTAL_MOST / b;
-    if latest < slide {
+    // No slide is after that of the largest total.
+    if TOTAL_MOST / b < slide {
         return no_ticks();
     }
     let first = slide * b;
-    if TOTAL_MOST - first < b - 1 {
-        return ticks_between(clock.t0, first, TOTAL_MOST);
-    }
-    ticks_between(clock.t0, first, first + (b - 1))
+    ticks_between(clock.t0, first, first + (b - 1).min(TOTAL_MOST - first))
 }
 
+#[tactic(auto, unfolding(crate::specs::Clock::ticks_if))]
 fn no_ticks() -> SlideTicks
     ensures { result ≡ ticks_if false 0 0 0 }
 {
@@ -172,6 +152,7 @@ fn no_ticks() -> SlideTicks
     }
 }
 
+#[tactic(auto, unfolding(crate::specs::Clock::ticks_if))]
 fn ticks_between(t0: u32, first: u64, last: u64) -> SlideTicks
     ensures { result ≡ ticks_if true t0 first last }
 {
@@ -187,19 +168,12 @@ fn ticks_between(t0: u32, first: u64, last: u64) -> SlideTicks
 pub fn chunk(clock: Clock, slide: u64) -> u64
     ensures { result ≡ chunk_of clock slide }
 {
-    let n = clock.n as u64;
-    if n == 0 {
-        return 0;
-    }
-    slide / n
+    slide.checked_div(clock.n as u64).unwrap_or(0)
 }
 
+#[tactic(auto, unfolding(crate::specs::Clock::place_of))]
 pub fn place(clock: Clock, slide: u64) -> u8
     ensures { result ≡ place_of clock slide }
 {
-    let n = clock.n as u64;
-    if n == 0 {
-        return 0;
-    }
-    (slide % n) as u8
+    slide.checked_rem(clock.n as u64).unwrap_or(0) as u8
 }

@@ -7,12 +7,14 @@ ghost use Rattle.slides.specs.Clock.{moved_to};
 use slides::Clock;
 
 // The clock after a tick, by value.
+#[tactic(auto, unfolding(slides::specs::Clock::moved_to))]
 pub fn moved(clock: Clock, tick: u32) -> Clock
     ensures { result ≡ moved_to clock tick }
 {
-    let mut later = clock;
-    later.total = slides::total_with(clock, tick);
-    later
+    Clock {
+        total: slides::total_with(clock, tick),
+        ..clock
+    }
 }
 
 // The clock's record, lent and altered there.
@@ -20,13 +22,4 @@ pub fn advance(clock: &mut Clock, tick: u32)
     ensures { clock.new ≡ moved_to clock.old tick }
 {
     *clock = moved(*clock, tick);
-}
-
-// The same with plain parameters, for callers: the record is lent here alone.
-pub fn advanced(old: Clock, tick: u32) -> Clock
-    ensures { result ≡ moved_to old tick }
-{
-    let mut lent = old;
-    advance(&mut lent, tick);
-    lent
 }

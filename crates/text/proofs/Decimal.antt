@@ -3,13 +3,13 @@
 use Prim.Native.Nat.{ℕ, zero, suc, ◌+◌, ◌*◌, ◌/◌, ◌^◌, ◌≤◌, ◌<◌}
 use mathlib.Core.Path.{◌≡◌, refl, ap, ◌∙◌}
 use mathlib.Core.List.{List, [], ◌∷◌, ◌++◌, append_assoc, append-nil}
-use native.Mathlib.Nat.{pow-succ'}
+use native.Mathlib.Nat.{pow-succ', one-le-pow}
 use native.Mathlib.Omega.{arith}
 use native.Mathlib.Decide.{dec_lt}
 use native.Mathlib.Numerals.{add-one}
 use borrow.Author.Tests.{lt-ltb, le-ltb}
 use lib.ListN.{length, get_or, take, drop, length-append}
-use lib.Seq.{take-suc, split_at}
+use lib.Seq.{take-suc, take_all, split_at}
 use Rattle.text.specs.Text.{last_digit, digits, decimal, blank, line_feed, fields, line}
 
 -- it makes no difference how many digits are allowed, if they are more than x
@@ -63,11 +63,30 @@ decimal_short (suc d) x h = elim (dec_lt x 10) [
         let below : x < 10 * 10 ^ suc d = rw pow-succ' at h in
         rw (decimal_more x l) (omega (arith, length-append (decimal (x / 10)) (last_digit x ∷ []), on (omega arith)))
 
+-- how many digits a value has, by the power of ten that it reaches
+pub decimal_size : (k x : ℕ) → 10 ^ k ≤ x → x < 10 * 10 ^ k → length (decimal x) ≡ k + 1
+decimal_size zero x least most = ap length (decimal_one x (omega arith))
+decimal_size (suc k) x least most =
+    let some = one-le-pow k 10 (omega arith) in
+    let reached : 10 * 10 ^ k ≤ x = rw pow-succ' at least in
+    let below : x < 10 * (10 * 10 ^ k) = rw pow-succ' at most in
+    one_longer x (omega arith) ∙ rw (decimal_size k (x / 10) (omega arith) (omega arith)) (omega arith)
+
+pub decimal_none : (x : ℕ) → x ≡ 0 → length (decimal x) ≡ 1
+decimal_none x e = ap length (decimal_one x (omega arith))
+
 -- the values one after the other
 pub fields_append : (xs ys : List ℕ) → fields (xs ++ ys) ≡ fields xs ++ fields ys
 unfolding fields
 fields_append [] ys = refl
 fields_append (x ∷ xs) ys = rw (fields_append xs ys, append_assoc)
+
+pub fields_none : fields [] ≡ []
+unfolding fields
+fields_none = refl
+
+pub fields_all : (xs : List ℕ) (i : ℕ) → length xs ≤ i → fields (take i xs) ≡ fields xs
+fields_all xs i h = ap fields (take_all i xs h)
 
 -- a blank and the value
 pub field : (x : ℕ) → fields (x ∷ []) ≡ blank ∷ decimal x
@@ -95,3 +114,8 @@ fields_room xs i h =
     let whole = ap (λ (l : List ℕ). length (fields l)) (split_at xs i 0 h) in
     let parted = ap length (fields_append (take i xs) rest) in
     omega (arith, length-append (fields (take i xs)) (fields rest), fields_length (get_or xs i 0) (drop (suc i) xs))
+
+-- the lemmas that writing a value goes by, and those of writing the values one by one
+pub ruleset in_decimal = (decimal_one, decimal_two, decimal_hundred, two_longer)
+
+pub ruleset one_by_one = (fields_none, fields_more, fields_room, fields_all)

@@ -1,10 +1,17 @@
 -- What a lent output holds after a text was written into it.
-use Rattle.std.specs.Prelude.{ℕ, ◌+◌, ◌≤◌, ◌≡◌, length}
+use Rattle.std.specs.Prelude.{◌+◌, ◌≤◌, length}
 use Rattle.std.proofs.lemmas.List.Edits.{sets}
 use Rattle.numbers.specs.Kinds.{Bytes}
+use Rattle.text.specs.declared.Output.{Output}
 
--- the text stands in the output from the place `at` up to `end`, and no other byte has changed
-pub record WrittenAt (text : Bytes) (at : ℕ) (output : Bytes) (end : ℕ) (output' : Bytes) : Type 0 where
-  pub until : end ≡ at + length text
-  pub within : end ≤ length output
-  pub bytes : output' ≡ sets output at text
+-- the text fits after what stands at the front
+abbrev pub HasRoom : (text : Bytes) (output : Output) → Type 0
+HasRoom text o = o.end + length text ≤ length o.bytes.now
+
+-- the text stands there, and no other byte has changed
+unfoldable pub wrote : (text : Bytes) (output : Output) → Output
+wrote text o =
+    record {
+      bytes = record { ref_ptr = o.bytes.ref_ptr; ghost_name = o.bytes.ghost_name; now = sets o.bytes.now o.end text };
+      end = o.end + length text;
+    }

@@ -5,3 +5,4 @@ pub mod Numbers
 pub mod Records
 pub mod Split
 pub mod Texts
+pub mod Told

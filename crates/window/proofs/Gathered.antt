@@ -1,18 +1,17 @@
 -- What links put into three blank arrays from place 0 on leave there: their columns stand at the front, and the links that are
 -- read from there are those that were put.
 use Prim.Native.Nat.{ℕ, zero, suc, ◌≤◌}
-use mathlib.Core.Path.{◌≡◌, refl, sym, ap, ◌∙◌}
+use mathlib.Core.Path.{PathP, ◌≡◌, refl, sym, ap, ◌∙◌}
+use mathlib.Core.HLevel.{is_prop→PathP}
+use Rattle.std.proofs.Math.Bridge.{le_prop}
 use mathlib.Core.List.{List, [], ◌∷◌, ◌++◌, map}
 use native.Mathlib.Omega.{arith}
 use native.Mathlib.Nat.{zero-add}
-use lib.ListN.{length, take, drop, replicate, length-map, length-replicate}
+use lib.ListN.{length, take, drop, length-map, length-replicate}
 use lib.Seq.{sets, sets-eq, take_at, length-sets}
 use Rattle.graph.specs.Forest.{Labelled}
-use Rattle.window.specs.Gathered.{ones_of, others_of, labels_of, LinksPut, array_links_at, array_links}
-
--- an array before links are put into it
-abbrev pub blank : List ℕ
-blank = replicate 4096 0
+use Rattle.window.specs.declared.arrays.Links.{Links}
+use Rattle.window.specs.Gathered.{ones_of, others_of, labels_of, LinksPut, Put, blank, NoLinks, array_links_at, array_links}
 
 -- the columns of the links stand at the front
 pub record Fronts (xs : List Labelled) (r : ℕ) (ones others labels : List ℕ) : Type 0 where
@@ -34,6 +33,30 @@ read_front (x ∷ xs) us vs ws =
     ap (λ ys. x ∷ ys)
     (read_shift x.link.one x.link.other x.label (ones_of xs ++ us) (others_of xs ++ vs) (labels_of xs ++ ws) 0 (length xs)
     ∙ read_front xs us vs ws)
+
+-- two that are put from the same are equal: whatever the arrays were, one result is allowed
+pub put_single : {xs : List Labelled} {at : ℕ} (before l m : Links) → Put xs at before l → Put xs at before m → l ≡ m
+put_single before l m p q = λ i. record { ones = ones i; others = others i; labels = labels i; count = count i; few = few i }
+  where
+    ones : l.ones ≡ m.ones
+    ones = p.first ∙ sym q.first
+
+    others : l.others ≡ m.others
+    others = p.second ∙ sym q.second
+
+    labels : l.labels ≡ m.labels
+    labels = p.third ∙ sym q.third
+
+    count : l.count ≡ m.count
+    count = p.until ∙ sym q.until
+
+    few : PathP (λ i. count i ≤ 4096) l.few m.few
+    few = is_prop→PathP (λ i. count i ≤ 4096) (λ i. le_prop) l.few m.few
+
+-- the links that were put where there were none before
+pub put_first : {xs : List Labelled} {none : Links} → NoLinks none → {count : ℕ} {ones others labels : List ℕ}
+    → LinksPut xs 0 none.ones none.others none.labels count ones others labels → LinksPut xs 0 blank blank blank count ones others labels
+put_first n put = rw (n.first, n.second, n.third) at put
 
 module _ {xs : List Labelled} {count : ℕ} {ones others labels : List ℕ} (put : LinksPut xs 0 blank blank blank count ones others labels) where
   blank_long : length blank ≡ 4096

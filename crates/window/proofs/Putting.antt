@@ -1,87 +1,63 @@
--- Links put into three arrays part by part: to put all of them from where it began is to put what is left from where the loop
--- stands (`Left`). A part that was put takes the front of what is left away, and where nothing is left all are put. The pairs of
--- a slide are put so, and the slides of the window.
-use Prim.Native.Nat.{ℕ, suc, ◌+◌, ◌*◌, ◌≤◌, ◌<◌}
-use mathlib.Core.Path.{◌≡◌, refl, sym, ap, ◌∙◌}
-use mathlib.Core.List.{List, [], ◌∷◌, ◌++◌, map}
-use native.Mathlib.Omega.{arith}
-use native.Mathlib.Nat.{add-zero, add-suc, suc-add, add-mul}
-use lib.ListN.{length, set, length-append}
+-- Links put into three arrays part by part: no links, one more link, and some links after others. The pairs of a slide are put so, and the
+-- slides of the window.
+use Rattle.std.proofs.Common.{ℕ, suc, ◌+◌, ◌<◌, ◌≡◌, true, false, List, [], ◌∷◌, ◌++◌, map, refl, ◌∙◌, length, get_or, take, set, length-append, add-zero, arith}
+use Rattle.std.proofs.lemmas.List.{map-append}
+use native.Mathlib.Nat.{add-suc, suc-add}
 use lib.Seq.{sets}
+use Rattle.graph.specs.Link.{Link}
 use Rattle.graph.specs.Forest.{Labelled}
-use Rattle.book_state.proofs.Passes.{Parts}
-use Rattle.window.specs.Gathered.{ones_of, others_of, labels_of, LinksPut}
+use Rattle.book_state.specs.Log.{keep, labelled}
+use Rattle.book_state.specs.Numbers.{are_cells_of}
+use Rattle.window.specs.Pairs.{pair_link, links_of_pairs}
+use Rattle.window.specs.Gathered.{LinksPut}
+use Rattle.window.proofs.Pairs.{pairs_more}
 
 pub put_none : {at : ℕ} {ones others labels : List ℕ} → LinksPut [] at ones others labels at ones others labels
 put_none = record { until = omega arith; first = refl; second = refl; third = refl }
 
-pub put_one : (x : Labelled) {at : ℕ} {ones others labels : List ℕ}
+put_one : (x : Labelled) {at : ℕ} {ones others labels : List ℕ}
     → LinksPut (x ∷ []) at ones others labels (at + 1) (set ones at x.link.one) (set others at x.link.other) (set labels at x.label)
 put_one x = record { until = omega arith; first = refl; second = refl; third = refl }
-
--- to put xs from `at` on is to put ys from `end` on
-pub record Left (xs : List Labelled) (at : ℕ) (ones others labels : List ℕ)
-    (ys : List Labelled) (end : ℕ) (ones' others' labels' : List ℕ) : Type 0 where
-  pub until : end + length ys ≡ at + length xs
-  pub first : sets ones' end (ones_of ys) ≡ sets ones at (ones_of xs)
-  pub second : sets others' end (others_of ys) ≡ sets others at (others_of xs)
-  pub third : sets labels' end (labels_of ys) ≡ sets labels at (labels_of xs)
-
-left_whole : {xs : List Labelled} {at : ℕ} {ones others labels : List ℕ} → Left xs at ones others labels xs at ones others labels
-left_whole = record { until = refl; first = refl; second = refl; third = refl }
 
 sets_on : (f : Labelled → ℕ) (ys zs : List Labelled) (l : List ℕ) (i : ℕ)
     → sets (sets l i (map f ys)) (i + length ys) (map f zs) ≡ sets l i (map f (ys ++ zs))
 sets_on f [] zs l i = rw (add-zero i)
 sets_on f (y ∷ ys) zs l i = rw (add-suc i (length ys), ← suc-add i (length ys)) (sets_on f ys zs (set l i (f y)) (suc i))
 
-module _ {xs : List Labelled} {at : ℕ} {ones others labels : List ℕ} {end : ℕ} {ones' others' labels' : List ℕ} where
-  left_put : {all ys zs : List Labelled} {end' : ℕ} {ones'' others'' labels'' : List ℕ}
-      → Left xs at ones others labels all end ones' others' labels' → all ≡ ys ++ zs
-      → LinksPut ys end ones' others' labels' end' ones'' others'' labels''
-      → Left xs at ones others labels zs end' ones'' others'' labels''
-  left_put {all} {ys} {zs} {end'} {ones''} {others''} {labels''} left e put =
-      record {
-        until = omega (arith, put.until, left.until, ap length e, length-append ys zs);
-        first = column (λ x. x.link.one) ones ones' ones'' put.first left.first;
-        second = column (λ x. x.link.other) others others' others'' put.second left.second;
-        third = column (λ x. x.label) labels labels' labels'' put.third left.third;
-      }
-    where
-      column : (f : Labelled → ℕ) (l l' l'' : List ℕ) → l'' ≡ sets l' end (map f ys)
-          → sets l' end (map f all) ≡ sets l at (map f xs) → sets l'' end' (map f zs) ≡ sets l at (map f xs)
-      column f l l' l'' s h = rw (put.until, s) (sets_on f ys zs l' end ∙ ap (λ ws. sets l' end (map f ws)) (sym e) ∙ h)
+-- some links after others
+pub put_then : {xs ys : List Labelled} {at end end' : ℕ} {ones others labels ones' others' labels' ones'' others'' labels'' : List ℕ}
+    → LinksPut xs at ones others labels end ones' others' labels' → LinksPut ys end ones' others' labels' end' ones'' others'' labels''
+    → LinksPut (xs ++ ys) at ones others labels end' ones'' others'' labels''
+put_then {xs} {ys} {at} {end} {ones = ones} {others = others} {labels = labels} p q =
+    record {
+      until = omega (arith, p.until, q.until, length-append xs ys);
+      first = column (λ x. x.link.one) ones p.first q.first;
+      second = column (λ x. x.link.other) others p.second q.second;
+      third = column (λ x. x.label) labels p.third q.third;
+    }
+  where
+    column : (f : Labelled → ℕ) (l : List ℕ) {l' l'' : List ℕ} → l' ≡ sets l at (map f xs) → l'' ≡ sets l' end (map f ys) → l'' ≡ sets l at (map f (xs ++ ys))
+    column f l e e' = e' ∙ rw (e, p.until) (sets_on f xs ys l at)
 
-  left_none : {ys : List Labelled} → Left xs at ones others labels ys end ones' others' labels' → ys ≡ []
-      → LinksPut xs at ones others labels end ones' others' labels'
-  left_none left e = go (rw e at left)
-    where
-      go : Left xs at ones others labels [] end ones' others' labels' → LinksPut xs at ones others labels end ones' others' labels'
-      go l = record { until = omega (arith, l.until); first = l.first; second = l.second; third = l.third }
+-- ---- pair by pair
 
--- ---- parts put one after the other
+abbrev pair : (ps : List (List ℕ)) (i : ℕ) → Link
+pair ps i = pair_link (get_or ps i [])
 
--- the first i parts are put, each of at most `most` links
-pub record Putting (most count : ℕ) (rest : ℕ → List Labelled) (at : ℕ) (ones others labels : List ℕ)
-    (i end : ℕ) (ones' others' labels' : List ℕ) : Type 0 where
-  pub within : i ≤ count
-  pub few : end ≤ at + i * most
-  pub left : Left (rest 0) at ones others labels (rest i) end ones' others' labels'
+module _ (label : ℕ) (ps : List (List ℕ)) (i : ℕ) (more : i < length ps) {at end : ℕ} {ones others labels ones' others' labels' : List ℕ}
+    (p : LinksPut (map (labelled label) (links_of_pairs (take i ps))) at ones others labels end ones' others' labels') where
+  further : {end' : ℕ} {ones'' others'' labels'' : List ℕ}
+      → LinksPut (map (labelled label) (keep (pair ps i) [])) end ones' others' labels' end' ones'' others'' labels''
+      → LinksPut (map (labelled label) (links_of_pairs (take (i + 1) ps))) at ones others labels end' ones'' others'' labels''
+  further q = rw (pairs_more ps i more, map-append (labelled label) (links_of_pairs (take i ps)) (keep (pair ps i) [])) (put_then p q)
 
-module _ {most count : ℕ} {part rest : ℕ → List Labelled} (parts : Parts count part rest) {at : ℕ} {ones others labels : List ℕ} where
-  pub putting_none : Putting most count rest at ones others labels 0 at ones others labels
-  putting_none = record { within = omega arith; few = omega arith; left = left_whole }
+  -- a pair of cells is one link more
+  pub put_link : are_cells_of (pair ps i).one (pair ps i).other ≡ true
+      → LinksPut (map (labelled label) (links_of_pairs (take (i + 1) ps))) at ones others labels
+      (end + 1) (set ones' end (pair ps i).one) (set others' end (pair ps i).other) (set labels' end label)
+  put_link e = further (rw e (put_one (labelled label (pair ps i))))
 
-  module _ {i end : ℕ} {ones' others' labels' : List ℕ} (p : Putting most count rest at ones others labels i end ones' others' labels') where
-    pub putting_one : {end' : ℕ} {ones'' others'' labels'' : List ℕ} → i < count → length (part i) ≤ most
-        → LinksPut (part i) end ones' others' labels' end' ones'' others'' labels''
-        → Putting most count rest at ones others labels (i + 1) end' ones'' others'' labels''
-    putting_one h short put =
-        record {
-          within = omega arith;
-          few = omega (arith, p.few, put.until, short, add-mul i 1 most);
-          left = left_put p.left (parts.next i h) put;
-        }
-
-    pub putting_all : count ≤ i → LinksPut (rest 0) at ones others labels end ones' others' labels'
-    putting_all h = let e : i ≡ count = omega (arith, p.within) in left_none p.left (rw e parts.none)
+  -- and any other pair is none
+  pub put_no_link : are_cells_of (pair ps i).one (pair ps i).other ≡ false
+      → LinksPut (map (labelled label) (links_of_pairs (take (i + 1) ps))) at ones others labels end ones' others' labels'
+  put_no_link e = further (rw e put_none)

@@ -17,7 +17,6 @@ use Rattle.slides.specs.declared.Clock.{Clock}
 use Rattle.book_state.specs.Arrays.{cells}
 use Rattle.book_state.specs.Log.{Readable, pair_at, labelled, links_at}
 use Rattle.book_state.proofs.LogLinks.{each_append, each_labelled, kept_cells}
-use Rattle.book_state.proofs.Passes.{Parts, counted_parts}
 use Rattle.window.specs.Window as window
 use Rattle.window.specs.Window.{window_slides_of, links_of_age, slide_links, links_from_age, window_links}
 use Rattle.window.specs.LabelsFall.{LabelsFall, none}
@@ -49,17 +48,6 @@ links_of_lem label [] = refl
 links_of_lem label (l ∷ ls) = ap (λ ms. l ∷ ms) (links_of_lem label ls)
 
 module _ (clock : Clock) (counts log : List ℕ) where
-  -- the links of the newest slides, from an age on
-  abbrev pub slides_from : (slides age : ℕ) → List Labelled
-  slides_from slides age = links_from_age clock counts log age (slides - age)
-
-  pub slides_all : (slides : ℕ) → slides_from slides 0 ≡ links_from_age clock counts log 0 slides
-  slides_all slides = let all : slides - 0 ≡ slides = omega arith in rw all
-
-  pub slide_parts : (slides : ℕ) → Parts slides (slide_links clock counts log) (slides_from slides)
-  unfolding links_from_age
-  slide_parts slides = counted_parts slides (slide_links clock counts log) (links_from_age clock counts log) (λ i. refl) (λ i more. let on : i + 1 ≡ suc i = omega arith in rw on)
-
   -- a slide has at most 256 links, if each count is such
   pub slide_few : (age : ℕ) → ((spot : ℕ) → get_or counts spot 0 ≤ 256) → length (slide_links clock counts log age) ≤ 256
   slide_few age few = rw length-map (le_trans (links_few log _ _) (few _))
@@ -130,12 +118,15 @@ module _ (clock : Clock) (counts log : List ℕ) where
       (ap (λ xs. slide_links clock counts log age ++ xs) (from_more (suc age) count more))
 
   -- one slide more
-  pub newest_more : (slides : ℕ) → newest_links (slides + 1) ≡ newest_links slides ++ links_of_age clock counts log slides
+  pub slides_more : (slides : ℕ) → links_from_age clock counts log 0 (slides + 1) ≡ links_from_age clock counts log 0 slides ++ slide_links clock counts log slides
   unfolding links_from_age
+  slides_more slides = from_more 0 slides 1 ∙ rw (zero-add slides, append-nil)
+
+  pub newest_more : (slides : ℕ) → newest_links (slides + 1) ≡ newest_links slides ++ links_of_age clock counts log slides
   newest_more slides =
-      ap (map (λ x. x.link)) (from_more 0 slides 1)
-      ∙ map-append (λ x. x.link) (links_from_age clock counts log 0 slides) _
-      ∙ ap (λ ls. newest_links slides ++ ls) (rw (zero-add slides, append-nil) (links_of_lem _ (links_of_age clock counts log slides)))
+      ap (map (λ x. x.link)) (slides_more slides)
+      ∙ map-append (λ x. x.link) (links_from_age clock counts log 0 slides) (slide_links clock counts log slides)
+      ∙ ap (λ ls. newest_links slides ++ ls) (links_of_lem _ (links_of_age clock counts log slides))
 
   -- the links of the newest slides are those from a label on
   pub newest_are : (slides : ℕ) → slides ≤ window_slides_of clock → window.links_from_label (suc clock.n - slides) (window_links clock counts log) ≡ newest_links slides

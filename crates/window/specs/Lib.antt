@@ -1,3 +1,4 @@
 pub mod Gathered
 pub mod LabelsFall
+pub mod Pairs
 pub mod Window

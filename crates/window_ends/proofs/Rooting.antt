@@ -7,8 +7,8 @@ use native.Mathlib.Omega.{arith}
 use native.Mathlib.Decide.{ℕ_discrete}
 use lib.ListN.{get_or, set}
 use Rattle.forest.specs.Arrays.{places, parent_in}
-use Rattle.forest_scratch.specs.Scratch.{Descends, Root}
-use Rattle.forest_scratch.proofs.Shorter.{Shortened, stored, shorter_same, shorter_trans, halved, Going, going_begin}
+use Rattle.forest_scratch.specs.Scratch.{Root}
+use Rattle.forest_scratch.proofs.Shorter.{Shortened, stored, shorter_trans, halved, Going, going_begin, next_is, above_inside}
 use Rattle.forest_scratch.proofs.Standing.{stands_shorter}
 use Rattle.window_ends.specs.Joins.{ToRoots}
 
@@ -18,17 +18,17 @@ pub record Rooting (ps : List ℕ) (i : ℕ) (ps' : List ℕ) : Type 0 where
   pub shorter : Shortened ps ps'
   pub roots : (c : ℕ) → c < i → Root ps' (parent_in ps' c)
 
-pub rooting_none : {ps : List ℕ} → Descends ps → Rooting ps 0 ps
-rooting_none falls = record { within = omega arith; shorter = shorter_same falls; roots = λ c h. absurd (omega arith) }
-
 module _ {ps : List ℕ} {i : ℕ} {ps' : List ℕ} (r : Rooting ps i ps') where
   pub rooting_all : places ≤ i → ToRoots ps ps'
   rooting_all h = record { stands = λ key s. stands_shorter s r.shorter; roots = λ c k. r.roots c (omega arith) }
 
   module _ (inside : i < places) where
-    -- what the code reads: the parent, and the parent's parent
-    pub read : Going ps' i ps' i (get_or ps' i 0) (get_or ps' (get_or ps' i 0) 0)
+    -- the code reads the parent, and the parent's parent, as a find does
+    pub read : Going ps' i ps' i
     read = going_begin r.shorter.falls inside
+
+    pub above_below : get_or ps' i 0 < places
+    above_below = above_inside read
 
     abbrev up : ℕ
     up = parent_in ps' (parent_in ps' i)
@@ -53,4 +53,4 @@ module _ {ps : List ℕ} {i : ℕ} {ps' : List ℕ} (r : Rooting ps i ps') where
         }
 
     pub rooting_one : Rooting ps (i + 1) (set ps' i (get_or ps' (get_or ps' i 0) 0))
-    rooting_one = rw (read.ahead ∙ ap (parent_in ps') read.here) rooting_up
+    rooting_one = rw (next_is read) rooting_up

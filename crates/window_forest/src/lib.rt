@@ -1,12 +1,13 @@
 // The labelled forest of the window's links, grown from the arrays into which they are gathered.
 #![tactic(auto)]
 
-ghost use Rattle.std.specs.Prelude.{◌≤◌, ◌≡◌};
+ghost use Rattle.std.specs.Prelude.{◌≡◌};
 ghost use Rattle.window.specs.Gathered.{array_links};
 ghost use Rattle.window_forest.specs.LinkForest.{grown_from};
 
 use book_state::STEP_LIMIT;
 use forest::PLACES;
+use window::Links;
 
 // A forest of links: of each cell its parent, and the label of the step to it.
 #[derive(Clone, Copy)]
@@ -15,31 +16,24 @@ pub struct LinkForest {
     pub label: [u8; PLACES],
 }
 
-// The forest of the first `count` links of three arrays, united from the first to the last.
-pub fn grow<'a>(
-    ones: &'a [u16; 4096],
-    others: &'a [u16; 4096],
-    labels: &'a [u8; 4096],
-    count: usize,
-) -> LinkForest
-    requires { count ≤ 4096 }
-    ensures { result ≡ grown_from (array_links ones.now others.now labels.now count) }
+// The forest of links in arrays, united from the first to the last.
+#[tactic(auto, using(crate::proofs::Growing::growing_none, crate::proofs::Growing::growing_one, crate::proofs::Growing::growing_all))]
+pub fn grow(links: &Links) -> LinkForest
+    ensures { result ≡ grown_from (array_links links.now.ones links.now.others links.now.labels links.now.count) }
 {
     let mut parent = forest::fresh_parents();
     let mut size = forest::fresh_sizes();
     let mut label = forest::fresh_labels();
-    let mut i = 0;
-    while i < count {
+    for i in 0..links.count {
         forest_unite::unite(
             &mut parent,
             &mut size,
             &mut label,
             STEP_LIMIT,
-            labels[i],
-            ones[i],
-            others[i],
+            links.labels[i],
+            links.ones[i],
+            links.others[i],
         );
-        i += 1;
     }
     LinkForest { parent, label }
 }

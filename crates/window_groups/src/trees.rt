@@ -7,18 +7,20 @@ ghost use Rattle.window_groups.specs.Trees.{Roots, lower, tallies_of, FromOne, g
 use super::Groups;
 use book_state::CELLS;
 use forest::PLACES;
+use window_forest::LinkForest;
 
 // The label of the cell's step, if that is smaller; a root has no step.
 fn lower_label(cell: u16, parent: u16, label: u8, least: u8) -> u8
     ensures { result ≡ lower cell parent label least }
 {
     if parent == cell {
-        return least;
+        least
+    } else {
+        label.min(least)
     }
-    if label < least { label } else { least }
 }
 
-// Of each root's tree: its smallest cell, how many cells it has, and the smallest label of a parent step in it.
+// Of each root's tree: its smallest cell, how many cells it has, and the smallest label of a parent step in it. Arrays as Groups has them.
 #[derive(Clone, Copy)]
 pub struct Tallies {
     pub first: [u16; PLACES],
@@ -27,26 +29,20 @@ pub struct Tallies {
 }
 
 // The tallies, in one pass. The cell that is stored last for a tree is its smallest; `top` stands where there is no step.
-pub fn tally<'a>(
-    root: &'a [u16; PLACES],
-    parent: &'a [u16; PLACES],
-    label: &'a [u8; PLACES],
-    top: u8,
-) -> Tallies
-    requires { Roots root.now × (length parent.now ≡ places) }
-    ensures { result ≡ tallies_of root.now parent.now label.now top }
+#[tactic(auto, using(crate::proofs::Tally::tree_short))]
+pub fn tally(root: &[u16; PLACES], forest: &LinkForest, top: u8) -> Tallies
+    requires { Roots root.now }
+    ensures { result ≡ tallies_of root.now forest.now.parent forest.now.label top }
 {
     let mut first = [0u16; PLACES];
     let mut count = [0u16; PLACES];
     let mut least = [top; PLACES];
-    let mut cell: u16 = CELLS;
-    while 0 < cell {
-        cell -= 1;
+    for cell in (0..CELLS).rev() {
         let at = cell as usize;
         let r = root[at] as usize;
         first[r] = cell;
-        count[r] = count[r] + 1;
-        least[r] = lower_label(cell, parent[at], label[at], least[r]);
+        count[r] += 1;
+        least[r] = lower_label(cell, forest.parent[at], forest.label[at], least[r]);
     }
     Tallies {
         first,
@@ -56,21 +52,18 @@ pub fn tally<'a>(
 }
 
 // Of each cell, what stands at its root.
-pub fn at_roots(root: &[u16; PLACES], tallies: Tallies, links: usize) -> Groups
-    requires { Roots root.now × FromOne root.now tallies.least }
-    ensures { result ≡ groups_at root.now tallies links }
+pub fn at_roots(root: &[u16; PLACES], tallies: &Tallies, links: usize) -> Groups
+    requires { Roots root.now × FromOne root.now tallies.now.least }
+    ensures { result ≡ groups_at root.now tallies.now links }
 {
     let mut first = [0u16; PLACES];
     let mut count = [0u16; PLACES];
     let mut hold = [0u8; PLACES];
-    let mut cell: u16 = 0;
-    while cell < CELLS {
-        let at = cell as usize;
-        let r = root[at] as usize;
-        first[at] = tallies.first[r];
-        count[at] = tallies.count[r];
-        hold[at] = tallies.least[r] - 1;
-        cell += 1;
+    for cell in 0..PLACES {
+        let r = root[cell] as usize;
+        first[cell] = tallies.first[r];
+        count[cell] = tallies.count[r];
+        hold[cell] = tallies.least[r] - 1;
     }
     Groups {
         first,

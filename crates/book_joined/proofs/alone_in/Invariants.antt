@@ -1,6 +1,6 @@
 -- `book_joined::alone_in` meets its contract: a pass over the cells, with their parents at the cut, that counts; the flag is whether nothing
 -- was counted so far.
-use Prim.Native.Nat.{◌-◌, ◌≤◌}
+use Prim.Native.Nat.{◌≤◌}
 use lib.Dec.{eqb}
 use Rattle.forest.specs.Arrays.{fresh_parents_of, parent_at_in}
 use Rattle.forest_check.proofs.Every.{Tested}
@@ -11,6 +11,3 @@ use Rattle.book_joined.proofs.alone_in.Given as goal
 abbrev pub invariant-loop-cell : goal.invariant-loop-cell
 invariant-loop-cell l =
     Tested (λ c _. spares l.asked c (parent_at_in l.parent l.label l.cut c)) (fresh_parents_of cells) (eqb l.steps 0) l.cell × (l.steps ≤ l.cell)
-
-abbrev pub decreases-loop-cell : goal.decreases-loop-cell
-decreases-loop-cell l = cells - l.cell

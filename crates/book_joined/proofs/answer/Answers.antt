@@ -4,12 +4,14 @@ use Prim.Native.Nat.{ℕ, ◌+◌, ◌≤◌}
 use mathlib.Core.Path.{◌≡◌, sym, ap, ◌∙◌, subst⁻¹}
 use mathlib.Core.Bool.{Bool}
 use native.Mathlib.Omega.{arith}
+use borrow.Author.Rules.{rules}
 use Rattle.graph.specs.Forest.{climb}
 use Rattle.forest.specs.declared.Walk.{Walk}
 use Rattle.forest.specs.Arrays.{walked}
 use Rattle.book_state.specs.Arrays.{step_limit}
 use Rattle.book_joined.specs.Joined.{four_walks_of}
 use Rattle.book_joined.specs.declared.JoinedAnswer.{JoinedAnswer}
+use Rattle.book_joined.proofs.Asked.{askable}
 use Rattle.book_joined.proofs.Crossing.{backward_decides, forward_decides}
 use Rattle.book_joined.proofs.Rooted.{climb_few}
 use Rattle.book_joined.proofs.answer.Goals as goal
@@ -38,7 +40,7 @@ answered p q i = record { number = 0; yes = p i; steps = q i }
 -- their sum
 sum : (c : After-walk-forward_other) → (let args = c.args in
     c.walk_at-backward_one.result.steps + c.walk_at-backward_other.result.steps + c.walk-forward_one.result.steps + c.walk-forward_other.result.steps
-    ≡ four_walks_of args.cut args.backward.now args.label.now args.forward.now args.one args.other)
+    ≡ four_walks_of c.cut-cut.result args.book.now.backward_parent args.book.now.backward_label args.book.now.forward_parent args.one args.other)
 sum c = added _ _ _ _ c.walk_at-backward_one.ensures c.walk_at-backward_other.ensures c.walk-forward_one.ensures c.walk-forward_other.ensures
 
 pub overflow_add-backward_steps : goal.overflow_add-backward_steps
@@ -52,21 +54,28 @@ pub overflow_add-steps-2 : goal.overflow_add-steps-2
 overflow_add-steps-2 c =
     omega (arith, few _ _ c.walk_at-backward_one.ensures, few _ _ c.walk_at-backward_other.ensures, few _ _ c.walk-forward_one.ensures, few _ _ c.walk-forward_other.ensures)
 
+-- the cut is above place 0
+above : (c : After-walk-forward_other) → 1 ≤ c.cut-cut.result
+above c = omega (arith, c.cut-cut.ensures)
+
 pub returns-then-backward_one-backward_other : goal.returns-then-backward_one-backward_other
 returns-then-backward_one-backward_other c =
-    answered
-    (backward_decides c.requires
-    (same_root _ _ _ c.walk_at-backward_one.ensures c.walk_at-backward_other.ensures c.if-backward_one-backward_other.true))
-    (sum (goal.at.returns-then-backward_one-backward_other c).After-walk-forward_other)
+    let a = askable c.args.book.now (search rules) (search rules) (search rules) c.requires.ordered (above (goal.at.returns-then-backward_one-backward_other c).After-walk-forward_other) c.requires.two in
+    rw (← c.cut-cut.ensures)
+    (answered
+    (backward_decides a (same_root _ _ _ c.walk_at-backward_one.ensures c.walk_at-backward_other.ensures c.if-backward_one-backward_other.true))
+    (sum (goal.at.returns-then-backward_one-backward_other c).After-walk-forward_other))
 
 pub returns-then-forward_one-forward_other : goal.returns-then-forward_one-forward_other
 returns-then-forward_one-forward_other c =
-    answered
-    (forward_decides c.requires (same_root _ _ _ c.walk-forward_one.ensures c.walk-forward_other.ensures c.if-forward_one-forward_other.true))
-    (sum (goal.at.returns-then-forward_one-forward_other c).After-walk-forward_other)
+    let a = askable c.args.book.now (search rules) (search rules) (search rules) c.requires.ordered (above (goal.at.returns-then-forward_one-forward_other c).After-walk-forward_other) c.requires.two in
+    rw (← c.cut-cut.ensures)
+    (answered
+    (forward_decides a (same_root _ _ _ c.walk-forward_one.ensures c.walk-forward_other.ensures c.if-forward_one-forward_other.true))
+    (sum (goal.at.returns-then-forward_one-forward_other c).After-walk-forward_other))
 
-pub across-yes-requires : goal.across-yes-requires
-across-yes-requires c = c.requires
+pub across-yes-requires-clause-above : goal.across-yes-requires-clause-above
+across-yes-requires-clause-above c = omega (arith, c.cut-cut.ensures)
 
 pub returns : goal.returns
-returns c = answered c.across-yes.ensures (sum (goal.at.returns c).After-walk-forward_other)
+returns c = rw (← c.cut-cut.ensures) (answered c.across-yes.ensures (sum (goal.at.returns c).After-walk-forward_other))

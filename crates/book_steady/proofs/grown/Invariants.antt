@@ -1,6 +1,6 @@
 -- `book_steady::grown` meets its contract: a pass over the cells (crates/forest_check/proofs/Every.antt) that stops at a size that
 -- does not double, and adds up the roots' sizes. Each is at most 1,024, so their sum is a 32-bit number.
-use Prim.Native.Nat.{ℕ, ◌-◌, ◌*◌, ◌≤◌}
+use Prim.Native.Nat.{ℕ, ◌*◌, ◌≤◌}
 use mathlib.Core.Path.{◌≡◌}
 use mathlib.Core.Bool.{true}
 use mathlib.Core.List.{List}
@@ -18,6 +18,3 @@ pub record Counted (ps ss : List ℕ) (sum i : ℕ) : Type 0 where
 
 abbrev pub invariant-loop-i : goal.invariant-loop-i
 invariant-loop-i l = Counted l.parent l.size l.cells l.i
-
-abbrev pub decreases-loop-i : goal.decreases-loop-i
-decreases-loop-i l = places - l.i

@@ -1,25 +1,17 @@
-use Prim.Native.Nat.{◌-◌}
-use mathlib.Core.Path.{refl, sym, ◌∙◌}
-use mathlib.Core.Bool.{true}
-use Rattle.numbers.proofs.Flags.{struck, kept}
+-- `forest_check::walks_end` meets its contract: a cell's own test is whether its walk ends.
+use Rattle.std.proofs.Common.{arith, rules, tests, length, zero-add, sym, ◌∙◌, refl}
+use Rattle.std.proofs.lemmas.Iterator.{YieldsList-from_range}
+use Rattle.std.proofs.lemmas.Iterator.Search.{all_from_yields_List}
+use Rattle.forest.specs.Arrays.{parent_in}
+use Rattle.forest_check.specs.Sound.{ends, ends_from_of}
 use Rattle.forest_check.proofs.Ends.{ends_from_ends}
-use Rattle.forest_check.proofs.Every.{tested_none, tested_more, tested_all}
+use Rattle.forest_check.proofs.Every.{all_every}
 use Rattle.forest_check.proofs.walks_end.Goals as goal
 
-pub loop-i-init : goal.loop-i-init
-loop-i-init c = tested_none
-
-pub returns-then-not-ends_from : goal.returns-then-not-ends_from
-returns-then-not-ends_from c =
-    let test = c.loop-i-test.true in
-    sym (tested_more c.loop-i.invariant test
-    (struck true (ends_from_ends c.args.parent.now _ _ test ∙ sym c.ends_from.ensures ∙ c.if-not-ends_from.true) refl)).rest
-
-pub loop-i-preserved : goal.loop-i-preserved
-loop-i-preserved c =
-    let test = c.loop-i-test.true in
-    tested_more c.loop-i.invariant test
-    (kept (ends_from_ends c.args.parent.now _ _ test ∙ sym c.ends_from.ensures ∙ c.if-not-ends_from.false) refl)
-
 pub returns : goal.returns
-returns c = tested_all c.loop-i.invariant c.loop-i-test.false
+returns c =
+    let ps = c.args.parent.now in
+    let limit = c.args.limit in
+    all_from_yields_List (ends (parent_in ps) limit) _ _ _ c.all.ensures.ran (YieldsList-from_range 0 (length ps) (length ps) refl (omega arith))
+    (λ x b q k. search (rules, tests))
+    ∙ all_every (ends_from_of ps limit) (ends (parent_in ps) limit) ps 0 (λ k h. rw zero-add (sym (ends_from_ends ps limit k h)))

@@ -7,6 +7,3 @@ use Rattle.forest_cross.proofs.list_groups.Given as goal
 abbrev pub invariant-loop-cell : goal.invariant-loop-cell
 invariant-loop-cell l =
     WalksEnd l.parent l.label l.limit l.cut × Listing (roots_at_of l.parent l.label l.limit l.cut places) l.roots l.next l.cell
-
-abbrev pub decreases-loop-cell : goal.decreases-loop-cell
-decreases-loop-cell l = l.cell

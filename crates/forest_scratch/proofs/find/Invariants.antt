@@ -2,8 +2,8 @@
 use Rattle.forest_scratch.proofs.Shorter.{Going}
 use Rattle.forest_scratch.proofs.find.Given as goal
 
-abbrev pub invariant-loop-next : goal.invariant-loop-next
-invariant-loop-next l = Going l.initial.parent l.cell l.parent l.at l.above l.next
+abbrev pub invariant-loop-cell : goal.invariant-loop-cell
+invariant-loop-cell l = Going l.initial.parent l.cell l.parent l.at
 
-abbrev pub decreases-loop-next : goal.decreases-loop-next
-decreases-loop-next l = l.at
+abbrev pub decreases-loop-cell : goal.decreases-loop-cell
+decreases-loop-cell l = l.at

@@ -1,48 +1,45 @@
 -- `listing::put_listing` meets its contract: what reading, opening and playing give decides the text (proofs/Stages.antt).
-use lib.ListN.{replicate}
-use Rattle.forest.specs.Arrays.{places}
-use Rattle.book_state.specs.Order.{book_of}
-use Rattle.file_play.proofs.Playing.{read_size}
+use Rattle.std.proofs.Common.{refl, Ok, Err}
+use Rattle.refusals.specs.Number.{code_of}
+use Rattle.refusals.proofs.Told.{never_0}
+use Rattle.file.specs.Format.{reading_of}
+use Rattle.file_play.specs.Play.{played}
 use Rattle.listing.proofs.Stages.{reading_refused, Opened, opening_refused, PlayedInto, record_refused, book_listed, book_ready}
 use Rattle.listing.proofs.put_listing.Goals as goal
-use Rattle.listing.proofs.put_listing.Goals.{After-opening-opened, After-over_fields-played}
+use Rattle.listing.proofs.put_listing.Goals.{In-Err-opening, In-Err-play, In_default-play}
 
--- what reading and opening gave, and what playing gave
-opened : (c : After-opening-opened) → Opened c.args.file.now c.read-reading.result ((book_of c.start-clock.result c.fitting-fitting.result (replicate 32 0) (replicate places 0) (replicate places 0) (replicate places 0) (replicate places 0) (replicate places 0))) ((record { book = book_of c.opening-opened.result.clock c.opening-opened.result.fitting c.opening-opened.new.counts c.opening-opened.new.forward_parent c.opening-opened.new.forward_size c.opening-opened.new.backward_parent c.opening-opened.new.backward_size c.opening-opened.new.backward_label; number = c.opening-opened.result.number })) c.opening-opened.new.log
-opened c = record { read = c.read-reading.ensures; fine = c.if-reading-ne0.false; opens = c.opening-opened.ensures }
+-- what reading and opening gave
+unopened : (c : In-Err-opening)
+    → Opened c.args.file.now (reading_of (Ok c.in-Ok.contents)) c.never_opened-book.result
+    (record { book = c.opening.new.book; number = code_of c.in-Err-opening.refusal }) c.opening.new.log
+unopened c = record { read = c.in-Ok.ensures; fine = refl; opens = c.in-Err-opening.ensures }
 
-played : (c : After-over_fields-played)
-    → (PlayedInto c.args.file.now c.read-reading.result ((book_of c.start-clock.result c.fitting-fitting.result (replicate 32 0) (replicate places 0) (replicate places 0) (replicate places 0) (replicate places 0) (replicate places 0))) ((record { book = book_of c.opening-opened.result.clock c.opening-opened.result.fitting c.opening-opened.new.counts c.opening-opened.new.forward_parent c.opening-opened.new.forward_size c.opening-opened.new.backward_parent c.opening-opened.new.backward_size c.opening-opened.new.backward_label; number = c.opening-opened.result.number })) c.opening-opened.new.log ((book_of c.over_fields-played.result.clock c.over_fields-played.result.fitting c.over_fields-played.new.counts c.over_fields-played.new.forward_parent c.over_fields-played.new.forward_size c.over_fields-played.new.backward_parent c.over_fields-played.new.backward_size c.over_fields-played.new.backward_label)) c.over_fields-played.result.answer c.over_fields-played.new.log)
-played c = record { opening = (let it : Opened c.args.file.now c.read-reading.result ((book_of c.start-clock.result c.fitting-fitting.result (replicate 32 0) (replicate places 0) (replicate places 0) (replicate places 0) (replicate places 0) (replicate places 0))) ((record { book = book_of c.opening-opened.result.clock c.opening-opened.result.fitting c.opening-opened.new.counts c.opening-opened.new.forward_parent c.opening-opened.new.forward_size c.opening-opened.new.backward_parent c.opening-opened.new.backward_size c.opening-opened.new.backward_label; number = c.opening-opened.result.number })) c.opening-opened.new.log = record { read = c.read-reading.ensures; fine = c.if-reading-ne0.false; opens = c.opening-opened.ensures } in it); opened = c.if-opened-ne0.false; plays = c.over_fields-played.ensures }
+-- and what playing gave
+stopped : (c : In-Err-play)
+    → PlayedInto c.args.file.now (reading_of (Ok c.in-Ok.contents)) c.never_opened-book.result (record { book = c.opening.new.book; number = 0 }) c.opening.new.log
+    c.play.new.book (played (Err c.in-Err-play.stopped)) c.play.new.log
+stopped c = record { opening = record { read = c.in-Ok.ensures; fine = refl; opens = rw c.in_default.is at c.opening.ensures }; opened = refl; plays = c.in-Err-play.ensures }
 
-pub returns-then-reading-ne0 : goal.returns-then-reading-ne0
-returns-then-reading-ne0 c = rw (reading_refused _ c.read-reading.ensures c.if-reading-ne0.true) c.put_refused_file.ensures
+whole : (c : In_default-play)
+    → PlayedInto c.args.file.now (reading_of (Ok c.in-Ok.contents)) c.never_opened-book.result (record { book = c.opening.new.book; number = 0 }) c.opening.new.log
+    c.play.new.book (played (Ok c.in_default-play.field-0)) c.play.new.log
+whole c = record { opening = record { read = c.in-Ok.ensures; fine = refl; opens = rw c.in_default.is at c.opening.ensures }; opened = refl; plays = rw c.in_default-play.is at c.play.ensures }
 
-pub put_refused_file-requires-then-opened-ne0 : goal.put_refused_file-requires-then-opened-ne0
-put_refused_file-requires-then-opened-ne0 c = c.requires
+pub returns-in-Err-clause-written : goal.returns-in-Err-clause-written
+returns-in-Err-clause-written c = rw (reading_refused c.args.file.now c.in-Err.ensures (never_0 c.in-Err.refusal)) c.put_refused_file.ensures.written
 
-pub returns-then-opened-ne0 : goal.returns-then-opened-ne0
-returns-then-opened-ne0 c =
-    rw (opening_refused (opened (goal.at.returns-then-opened-ne0 c).After-opening-opened) c.if-opened-ne0.true) c.put_refused_file-then-opened-ne0.ensures
+pub returns-in-Err-opening-clause-written : goal.returns-in-Err-opening-clause-written
+returns-in-Err-opening-clause-written c =
+    rw (opening_refused (unopened (goal.at.returns-in-Err-opening-clause-written c).In-Err-opening) (never_0 c.in-Err-opening.refusal))
+    c.put_refused_file-in-Err-opening.ensures.written
 
-pub over_fields-played-requires : goal.over_fields-played-requires
-over_fields-played-requires c =
-    let o = opened (goal.at.over_fields-played-requires c).After-opening-opened in
-    read_size _ o.read o.fine
+pub returns-in-Err-play-clause-written : goal.returns-in-Err-play-clause-written
+returns-in-Err-play-clause-written c =
+    rw (record_refused (stopped (goal.at.returns-in-Err-play-clause-written c).In-Err-play) (never_0 c.in-Err-play.stopped.refusal))
+    c.put_refused_record.ensures.written
 
-pub put_refused_record-requires : goal.put_refused_record-requires
-put_refused_record-requires c = c.requires
+pub put_book-requires-clause-readable : goal.put_book-requires-clause-readable
+put_book-requires-clause-readable c = book_ready (whole (goal.at.put_book-requires-clause-readable c).In_default-play) refl
 
-pub returns-then-answer-ne0 : goal.returns-then-answer-ne0
-returns-then-answer-ne0 c =
-    rw (record_refused (played (goal.at.returns-then-answer-ne0 c).After-over_fields-played) c.if-answer-ne0.true) c.put_refused_record.ensures
-
-pub put_book-requires : goal.put_book-requires
-put_book-requires c =
-    record {
-      readable = book_ready (played (goal.at.put_book-requires c).After-over_fields-played) c.if-answer-ne0.false;
-      in_bounds = c.requires;
-    }
-
-pub returns : goal.returns
-returns c = rw (book_listed (played (goal.at.returns c).After-over_fields-played) c.if-answer-ne0.false) c.put_book.ensures
+pub returns-clause-written : goal.returns-clause-written
+returns-clause-written c = rw (book_listed (whole (goal.at.returns-clause-written c).In_default-play) refl) c.put_book.ensures.written

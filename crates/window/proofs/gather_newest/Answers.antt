@@ -1,25 +1,15 @@
-use Prim.Native.Nat.{◌-◌}
-use native.Mathlib.Omega.{arith}
-use Rattle.window.proofs.Putting.{putting_none, putting_one, putting_all}
-use Rattle.window.proofs.WindowLinks.{slides_all, slide_parts, slide_few}
+use Rattle.std.proofs.Common.{arith}
+use Rattle.window.proofs.Putting.{put_then}
+use Rattle.window.proofs.WindowLinks.{slide_few, slides_more}
 use Rattle.window.proofs.gather_newest.Goals as goal
-
-pub loop-age-init : goal.loop-age-init
-loop-age-init c = putting_none (slide_parts _ _ _ _)
-
-pub put_slide-end-requires : goal.put_slide-end-requires
-put_slide-end-requires c =
-    record {
-      readable = c.requires.readable;
-      at_bound = omega (arith, c.requires.slides_bound, c.requires.readable.n_most, c.loop-age-test.true, c.loop-age.invariant.few);
-    }
 
 pub loop-age-preserved : goal.loop-age-preserved
 loop-age-preserved c =
-    let args = c.args in
-    putting_one (slide_parts _ _ _ _) c.loop-age.invariant c.loop-age-test.true
-    (slide_few args.clock args.counts.now args.log.now _ c.requires.readable.few)
-    (rw c.open_slide-k.ensures at c.put_slide-end.ensures)
-
-pub returns : goal.returns
-returns c = rw slides_all at (putting_all (slide_parts _ _ _ _) c.loop-age.invariant c.loop-age-test.false)
+    let window = c.args.window in
+    let age = c.loop-age.age in
+    let before = c.loop-age.invariant in
+    let slide = rw (c.pairs.ensures.links, c.open_slide-k.ensures) at c.put_pairs.ensures in
+    record {
+      few = omega (arith, before.few, slide.until, slide_few window.clock window.counts.now window.log.now age window.readable.few);
+      put = rw (slides_more window.clock window.counts.now window.log.now age) (put_then before.put slide);
+    }

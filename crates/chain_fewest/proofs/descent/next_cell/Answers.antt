@@ -1,5 +1,5 @@
--- `chain_fewest::descent::next_cell` meets its contract: what is found from the one side and then from the other is the smallest
--- from either (`next_found`).
+-- `next_cell` meets its contract: what is found from the one side and then from the other is the smallest from either
+-- (`next_found`).
 use Prim.Native.Nat.{◌-◌}
 use mathlib.Core.Path.{ap}
 use Rattle.chain_fewest.proofs.Nearest.{next_found}
@@ -7,6 +7,5 @@ use Rattle.chain_fewest.proofs.descent.next_cell.Goals as goal
 
 pub returns : goal.returns
 returns c =
-    let given = c.requires in
-    next_found given.lists (ap (λ n. n - 1) c.entry_at-number.ensures) c.smallest_across-found.ensures
-    c.smallest_across.ensures given.nearer.1
+    next_found c.args.links (ap (λ n. n - 1) c.entry_at-number.ensures) c.smallest_across-found.ensures c.smallest_across.ensures
+    c.requires.nearer.1

@@ -10,6 +10,3 @@ invariant-loop-cell l =
     Filled (at_root l.root l.tallies.first) cells l.first l.cell
     × Filled (at_root l.root l.tallies.count) cells l.count l.cell
     × Filled (λ c. at_root l.root l.tallies.least c - 1) cells l.hold l.cell
-
-abbrev pub decreases-loop-cell : goal.decreases-loop-cell
-decreases-loop-cell l = 1024 - l.cell

@@ -1,5 +1,0 @@
--- `forest_unite::merge_labels` meets its contract: a store, where the roots are different.
-use Rattle.forest_unite.proofs.merge_labels.Goals as goal
-
-pub returns-then-h : goal.returns-then-h
-returns-then-h c = rw c.if-h.true c.store_label.ensures

@@ -1,0 +1,5 @@
+-- The value is the measure.
+use Rattle.text.proofs.Output.+put_decimal.Given as goal
+
+abbrev pub decreases-put_decimal : goal.decreases-put_decimal
+decreases-put_decimal l = l.x
