@@ -376,7 +376,7 @@ KERB_LOOK_AT struct kerb_chain_answer kerb_chain(const struct kerb_book *book, c
  * has, and its least hold, for how many further closings any two of them stay joined. Cell c in the lorry's numbers. A cell that
  * no link holds to another is alone: its own number, 1, and n, read as "always". Each length is that of its array in places, at
  * least KERB_CELLS; later places keep what they had.
- * Refuses, in this order: 1, 6 (the log or an array). Stack: 63 KB.
+ * Refuses, in this order: 1, 6 (the log or an array). Stack: 58 KB.
  */
 KERB_LOOK_AT struct kerb_groups_answer kerb_groups(const struct kerb_book *book, const uint16_t *log, size_t log_places,
                                                    uint16_t *first, size_t first_places, uint16_t *size, size_t size_places,
@@ -456,7 +456,7 @@ KERB_LOOK_AT struct kerb_play_answer kerb_play(struct kerb_book *book, uint16_t 
  * The text that the program kerblist prints for a link file, at the front of the output; no byte beyond is touched, and no zero
  * byte ends it. A file that is refused is a line of the text ("refused 9 file"), and the number is 0 all the same. The open slide
  * in it is that of the total, and does not follow from the last tick alone.
- * Refuses: 6, an output under KERB_LISTING_BYTES. Stack: 104 KB.
+ * Refuses: 6, an output under KERB_LISTING_BYTES. Stack: 101 KB.
  */
 KERB_LOOK_AT struct kerb_list_answer kerb_list(const uint8_t *file, size_t file_bytes, uint8_t *out, size_t out_bytes);
 

@@ -16,7 +16,9 @@ pub struct LinkForest {
     pub label: [u8; PLACES],
 }
 
-// The forest of links in arrays, united from the first to the last.
+// The forest of links in arrays, united from the first to the last. It stays a function of its own for the sake of the stack: the arrays that it
+// grows are not on it together with what its caller makes of the forest.
+#[inline(never)]
 #[tactic(auto, using(crate::proofs::Growing::growing_none, crate::proofs::Growing::growing_one, crate::proofs::Growing::growing_all))]
 pub fn grow(links: &Links) -> LinkForest
     ensures { result ≡ grown_from (array_links links.now.ones links.now.others links.now.labels links.now.count) }

@@ -7,7 +7,6 @@ mod trees; // trees.rt: what the trees of a forest tell
 ghost use Rattle.std.specs.Prelude.{◌≡◌};
 ghost use Rattle.window_groups.specs.Groups.{groups_of};
 
-use book_state::STEP_LIMIT;
 use forest::PLACES;
 use window::{Links, Window};
 
@@ -28,7 +27,7 @@ pub fn of_window(window: Window) -> Groups
     let mut links = Links::none();
     window::gather(window, &mut links);
     let forest = window_forest::grow(&links);
-    let root = forest_walk::roots(&forest.parent, STEP_LIMIT);
+    let root = trees::roots(&forest);
     let tallies = trees::tally(&root, &forest, window.clock.n + 1);
     trees::at_roots(&root, &tallies, links.count)
 }
