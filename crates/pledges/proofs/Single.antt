@@ -5,6 +5,10 @@ use Rattle.std.proofs.Common.{◌≡◌, ℕ, refl, sym, ap, ◌∙◌, Option, 
 use mathlib.Core.Bool.{true≢false, false≢true}
 use Rattle.refusals.specs.declared.Refusal.{Refusal}
 use Rattle.refusals.proofs.Told.{never_0, one_refusal, one_answer, one_number}
+use Rattle.cells.specs.Mounting.{Mounts}
+use Rattle.cells.specs.declared.Mounting.{Mounting}
+use Rattle.cells.specs.declared.Mounting.TheVariants.{Plain, Mirrored}
+use Rattle.cells.specs.declared.NoMounting.{NoMounting}
 use Rattle.book.specs.Calls.{Answer}
 use Rattle.book_joined.specs.declared.Joined.{Joined}
 use Rattle.chain.specs.Chain as chain
@@ -25,7 +29,7 @@ use Rattle.file_play.specs.declared.Stopped.{Stopped}
 use Rattle.file_play.specs.Play.{played}
 use Rattle.buckets.proofs.Listing.{one_listing}
 use Rattle.forest_cross.proofs.Joined as crossing
-use Rattle.window.proofs.Gathered.{put_single}
+use Rattle.window.proofs.Gathered.{put_single, none_single}
 use Rattle.pledges.specs.Pledges.{◌▸◌}
 use Rattle.pledges.specs.Single.{
   freshen_fn,
@@ -40,6 +44,8 @@ use Rattle.pledges.specs.Single.{
   unpack_fn,
   judge_write_fn,
   write_fn,
+  none_fn,
+  put_pairs_fn,
   gather_fn,
   gather_newest_fn,
   newest_label_fn,
@@ -117,6 +123,19 @@ one_label label None (Some y) p q = absurd (omega (arith, p, q.0, q.1))
 one_label label (Some x) None p q = absurd (omega (arith, p.0, p.1, q))
 one_label label (Some x) (Some y) p q = ap Some (p.0 ∙ sym q.0)
 
+-- ---- a number is one mounting's, or none's
+
+one_mounting : (number : ℕ) (a b : Result Mounting NoMounting) → Mounts number a → Mounts number b → a ≡ b
+one_mounting number (Ok Plain) (Ok Plain) p q = refl
+one_mounting number (Ok Plain) (Ok Mirrored) p q = absurd (omega (arith, p, q))
+one_mounting number (Ok Plain) (Err y) p q = absurd (q.1 (sym p))
+one_mounting number (Ok Mirrored) (Ok Plain) p q = absurd (omega (arith, p, q))
+one_mounting number (Ok Mirrored) (Ok Mirrored) p q = refl
+one_mounting number (Ok Mirrored) (Err y) p q = absurd (q.2 (sym p))
+one_mounting number (Err x) (Ok Plain) p q = absurd (p.1 (sym q))
+one_mounting number (Err x) (Ok Mirrored) p q = absurd (p.2 (sym q))
+one_mounting number (Err x) (Err y) p q = λ i. Err (record { 0 = (p.0 ∙ sym q.0) i })
+
 -- ---- the contracts
 
 pub single : Single
@@ -136,6 +155,7 @@ single =
       book_link_link_in_order = single_claim link_in_order_fn (λ w κs a g r e. refl) λ κs a r s p q i.
           let o : ◌≡◌ {A = Answer} _ _ = equal p.answered q.answered in
           one_number r.0 s.0 (ap (λ (o : Answer). o.number) o) i ▸ (o i).book ▸ equal p.logged q.logged i ▸ tt ▸ tt ▸ tt ▸ tt;
+      cells_mounting = one_mounting;
       settings_judge = single_claim judge_fn (λ w κs a g r e. refl) λ κs a r s p q i. one_number r.0 s.0 (equal p q) i ▸ tt ▸ tt;
       file_read = single_claim read_fn (λ w κs a g r e. refl) λ κs a r s p q i. one_reading r.0 s.0 (equal p q) i ▸ tt ▸ tt;
       file_record_pack = single_claims pack_fn (λ w κs a g r e. refl) λ κs a r s p q i.
@@ -144,6 +164,9 @@ single =
       file_write_judge_write = single_claim judge_write_fn (λ w κs a g r e. refl) λ κs a r s p q i. one_number r.0 s.0 (equal p q) i ▸ tt ▸ tt ▸ tt ▸ tt;
       file_write_write = single_claims write_fn (λ w κs a g r e. refl) λ κs a r s p q i.
           one_number r.0 s.0 (equal p.0 q.0) i ▸ tt ▸ tt ▸ equal p.1 q.1 i ▸ tt;
+      window_none = single_claim none_fn (λ w κs a g r e. refl) λ κs a r s p q i. none_single r.0 s.0 p q i ▸ tt;
+      window_put_pairs = single_claim put_pairs_fn (λ w κs a g r e. refl) λ κs a r s p q i.
+          tt ▸ put_single a.0.now r.1.0 s.1.0 p q i ▸ tt ▸ tt ▸ tt;
       window_gather = single_claim gather_fn (λ w κs a g r e. refl) λ κs a r s p q i.
           tt ▸ tt ▸ put_single a.1.0.now r.1.1.0 s.1.1.0 p q i ▸ tt;
       window_gather_newest = single_claim gather_newest_fn (λ w κs a g r e. refl) λ κs a r s p q i.

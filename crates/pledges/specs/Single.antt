@@ -25,6 +25,10 @@ use Rattle.file_write.specs.contracts.judge_write as judge_write
 use Rattle.file_write.proofs.judge_write.Symbol as judge_write_symbol
 use Rattle.file_write.specs.contracts.write as write
 use Rattle.file_write.proofs.write.Symbol as write_symbol
+use Rattle.window.specs.contracts.arrays.Links.none as none
+use Rattle.window.proofs.arrays.Links.none.Symbol as none_symbol
+use Rattle.window.specs.contracts.arrays.Links.put_pairs as put_pairs
+use Rattle.window.proofs.arrays.Links.put_pairs.Symbol as put_pairs_symbol
 use Rattle.window.specs.contracts.gather as gather
 use Rattle.window.proofs.gather.Symbol as gather_symbol
 use Rattle.window.specs.contracts.gather_newest as gather_newest
@@ -65,6 +69,10 @@ use Rattle.buckets.specs.contracts.list_entries as list_entries
 use Rattle.buckets.proofs.list_entries.Symbol as list_entries_symbol
 use Rattle.forest_cross.specs.contracts.joined_across as joined_across
 use Rattle.forest_cross.proofs.joined_across.Symbol as joined_across_symbol
+use Rattle.std.specs.Prelude.{◌≡◌, ℕ, Result}
+use Rattle.cells.specs.Mounting.{Mounts}
+use Rattle.cells.specs.declared.Mounting.{Mounting}
+use Rattle.cells.specs.declared.NoMounting.{NoMounting}
 use Rattle.pledges.specs.Exported.{Exported, SingleResult}
 
 abbrev pub freshen_fn : Exported
@@ -102,6 +110,12 @@ judge_write_fn = record { ended = judge_write.ended; clauses = λ M 𝓤. judge_
 
 abbrev pub write_fn : Exported
 write_fn = record { ended = write.ended; clauses = λ M 𝓤. write.clauses; name = write_symbol.name; code = write_symbol.code }
+
+abbrev pub none_fn : Exported
+none_fn = record { ended = none.ended; clauses = λ M 𝓤. none.clauses; name = none_symbol.name; code = none_symbol.code }
+
+abbrev pub put_pairs_fn : Exported
+put_pairs_fn = record { ended = put_pairs.ended; clauses = λ M 𝓤. put_pairs.clauses; name = put_pairs_symbol.name; code = put_pairs_symbol.code }
 
 abbrev pub gather_fn : Exported
 gather_fn = record { ended = gather.ended; clauses = λ M 𝓤. gather.clauses; name = gather_symbol.name; code = gather_symbol.code }
@@ -170,12 +184,16 @@ pub record Single : Type 2 where
   pub book_clock : SingleResult clock_fn
   pub book_link_link : SingleResult link_fn
   pub book_link_link_in_order : SingleResult link_in_order_fn
+  -- the trait's law says of `Mounting::try_from` that it gives what `Mounts` allows
+  pub cells_mounting : (number : ℕ) (one other : Result Mounting NoMounting) → Mounts number one → Mounts number other → one ≡ other
   pub settings_judge : SingleResult judge_fn
   pub file_read : SingleResult read_fn
   pub file_record_pack : SingleResult pack_fn
   pub file_record_unpack : SingleResult unpack_fn
   pub file_write_judge_write : SingleResult judge_write_fn
   pub file_write_write : SingleResult write_fn
+  pub window_none : SingleResult none_fn
+  pub window_put_pairs : SingleResult put_pairs_fn
   pub window_gather : SingleResult gather_fn
   pub window_gather_newest : SingleResult gather_newest_fn
   pub chain_newest_newest_label : SingleResult newest_label_fn

@@ -53,6 +53,13 @@ put_single before l m p q = λ i. record { ones = ones i; others = others i; lab
     few : PathP (λ i. count i ≤ 4096) l.few m.few
     few = is_prop→PathP (λ i. count i ≤ 4096) (λ i. le_prop) l.few m.few
 
+-- there is one way to have no links
+pub none_single : (l m : Links) → NoLinks l → NoLinks m → l ≡ m
+none_single l m p q = put_single l l m (nothing_put l p) (nothing_put m q)
+  where
+    nothing_put : (l' : Links) → NoLinks l' → Put [] 0 l l'
+    nothing_put l' n = record { until = n.until; first = n.first ∙ sym p.first; second = n.second ∙ sym p.second; third = n.third ∙ sym p.third }
+
 -- the links that were put where there were none before
 pub put_first : {xs : List Labelled} {none : Links} → NoLinks none → {count : ℕ} {ones others labels : List ℕ}
     → LinksPut xs 0 none.ones none.others none.labels count ones others labels → LinksPut xs 0 blank blank blank count ones others labels

@@ -10,7 +10,7 @@ ghost use Rattle.slides.specs.Clock.{chunk_of, place_of};
 ghost use Rattle.book_state.specs.Numbers.{log_places};
 ghost use Rattle.book_state.specs.Order.{in_order_of};
 ghost use Rattle.book_state.specs.Log.{half_of, place_links, Readable};
-ghost use Rattle.window.specs.Pairs.{links_of_pairs};
+ghost use Rattle.window.specs.Pairs.{links_of_pairs, place_pairs};
 ghost use Rattle.window.specs.Window.{window_slides_of, links_from_age, window_links};
 ghost use Rattle.window.specs.Gathered.{Put};
 
@@ -55,9 +55,10 @@ impl<'a> Window<'a> {
         window_slides(self.clock)
     }
 
-    // The pairs of a slide, in order of arrival: at most 256.
-    #[tactic(auto, using(crate::proofs::Pairs::spot_below, crate::proofs::Pairs::pairs_links))]
+    // The pairs of a slide as they stand in the log, in order of arrival: at most 256. One with an entry that is no cell is among them, and is no link.
+    #[tactic(auto, using(crate::proofs::Pairs::spot_below, crate::proofs::Pairs::pairs_stand, crate::proofs::Pairs::pairs_links, crate::proofs::Pairs::pairs_length))]
     pub fn pairs(self, slide: u64) -> &'a [[u16; 2]]
+        ensures stand { result.now ≡ place_pairs self.entry.counts.now self.entry.log.now (half_of (chunk_of self.entry.clock slide)) (place_of self.entry.clock slide) }
         ensures links { links_of_pairs result.now ≡ place_links self.entry.counts.now self.entry.log.now (half_of (chunk_of self.entry.clock slide)) (place_of self.entry.clock slide) }
         ensures few { length result.now ≤ 256 }
     {
