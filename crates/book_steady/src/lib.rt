@@ -23,10 +23,13 @@ pub fn steady(book: &Book) -> bool
 }
 
 // Whether each step doubles the size, and the roots' sizes add up to the cells.
-fn grown(parent: &[u16; PLACES], size: &[u16; PLACES]) -> bool
+fn grown(parent: &[u16], size: &[u16]) -> bool
     requires { sound_of parent.now size.now step_limit ≡ true }
     ensures { result ≡ grown_of parent.now size.now }
 {
+    if parent.len() != PLACES {
+        return false;
+    }
     let mut cells: u32 = 0;
     for i in 0..PLACES {
         let up = parent[i] as usize;

@@ -12,6 +12,10 @@ use book_state::Book;
 use refusals::Refusal;
 use window::Window;
 use zone::Zone;
+
+// A mask has a place for each cell, and so have the arrays that tell of cells.
+pub const CELLS: usize = 1024;
+
 // Sectors 33 to 63 are on the left, 1 to 31 on the right.
 const LEFT: Zone = Zone { from: 33, end: 64 };
 

@@ -7,7 +7,7 @@ ghost use Rattle.lamps.specs.Zones.{in_zone_of};
 ghost use Rattle.lamps.specs.Lamps.{lamp_from};
 ghost use Rattle.lamps.specs.Groups.{Firsts, lights_by};
 
-use forest::PLACES;
+use super::CELLS;
 use window_ends::Ends;
 
 // Rings 0 to 5, and the sectors from the first up to, and without, the end.
@@ -19,7 +19,7 @@ pub struct Zone {
 
 // The smallest cell of the zone that lights its lamp. Six rings have 384 cells.
 #[tactic(auto, using(crate::proofs::Search::lamp_found, crate::proofs::Search::lamp_past, crate::proofs::Beyond::lamp_beyond))]
-pub fn lamp_of(zone: Zone, ends: &Ends, dark: &[u8; PLACES]) -> Option<u16>
+pub fn lamp_of(zone: Zone, ends: &Ends, dark: &[u8; CELLS]) -> Option<u16>
     requires { Firsts ends.now.first }
     ensures { result ≡ lamp_from (lights_by (record { from = zone.from; end = zone.end }) ends.now.first ends.now.linked dark.now) 0 cells }
 {
@@ -32,7 +32,7 @@ pub fn lamp_of(zone: Zone, ends: &Ends, dark: &[u8; PLACES]) -> Option<u16>
 }
 
 // Whether the cell lights the lamp.
-fn lights(zone: Zone, ends: &Ends, dark: &[u8; PLACES], cell: u16) -> bool
+fn lights(zone: Zone, ends: &Ends, dark: &[u8; CELLS], cell: u16) -> bool
     requires { Firsts ends.now.first × (cell < cells) }
     ensures { result ≡ lights_by (record { from = zone.from; end = zone.end }) ends.now.first ends.now.linked dark.now cell }
 {

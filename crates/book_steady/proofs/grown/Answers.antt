@@ -48,33 +48,42 @@ module _ {ps ss : List ℕ} (long : length ps ≡ places) (r : Ranged (length ps
   step_fails : ¬ (get_or ps i 0 ≡ i) → get_or ss (get_or ps i 0) 0 < 2 * get_or ss i 0 → every (doubles_at ss) 0 ps ≡ false
   step_fails n d = (tested_more on.tested inside (struck true (rw (ne_eqb _ _ n) (lt-leb _ _ d)) refl)).rest
 
-  parent_inside : get_or ps i 0 < places
-  parent_inside = rw (get_d_within ps i 0 i inside, ← long) (r.parent_below i inside)
+  parent_within : get_or ps i 0 < length ss
+  parent_within =
+      let below : get_or ps i 0 < length ps = rw (get_d_within ps i 0 i inside) (r.parent_below i inside) in
+      omega (arith, below, r.sizes_long)
+
+-- as many parents as a book has
+long : (c : In-loop-i) → length c.args.parent.now ≡ places
+long c = c.if-parent-ne-PLACES.false
 
 ranged : (c : In-loop-i) → Ranged (length c.args.parent.now) c.args.parent.now c.args.size.now
 ranged c = sound_ranged _ _ _ c.requires
+
+pub returns-then-parent-ne-PLACES : goal.returns-then-parent-ne-PLACES
+returns-then-parent-ne-PLACES c = rw (ne_eqb _ _ c.if-parent-ne-PLACES.true)
 
 pub loop-i-init : goal.loop-i-init
 unfolding root_cells
 loop-i-init c = record { tested = tested_none; summed = refl; small = omega arith }
 
 pub bounds-size-up : goal.bounds-size-up
-bounds-size-up c = parent_inside c.told-parent (ranged (goal.at.bounds-size-up c).In-loop-i) c.loop-i.invariant c.loop-i-test.true
+bounds-size-up c = parent_within (long (goal.at.bounds-size-up c).In-loop-i) (ranged (goal.at.bounds-size-up c).In-loop-i) c.loop-i.invariant c.loop-i-test.true
 
 pub returns-then-size-up : goal.returns-then-size-up
 returns-then-size-up c =
-    rw (step_fails c.told-parent (ranged (goal.at.returns-then-size-up c).In-loop-i) c.loop-i.invariant c.loop-i-test.true c.if-up-i.false c.if-size-up.true, eq-eqb _ _ c.told-parent)
+    rw (step_fails (long (goal.at.returns-then-size-up c).In-loop-i) (ranged (goal.at.returns-then-size-up c).In-loop-i) c.loop-i.invariant c.loop-i-test.true c.if-up-i.false c.if-size-up.true, eq-eqb _ _ (long (goal.at.returns-then-size-up c).In-loop-i))
 
 pub loop-i-preserved : goal.loop-i-preserved
 loop-i-preserved c =
     let more = ranged (goal.at.loop-i-preserved c).In-loop-i in
     elim c.if-up-i.branch [
-      | then-up-i w ↦ rw w.cells-is (root_more c.told-parent more c.loop-i.invariant c.loop-i-test.true w.if-up-i.true)
-      | else-up-i+else-size-up w ↦ rw w.cells-is (step_more c.told-parent more c.loop-i.invariant c.loop-i-test.true w.if-up-i.false w.if-size-up.false)
+      | then-up-i w ↦ rw w.cells-is (root_more (long (goal.at.loop-i-preserved c).In-loop-i) more c.loop-i.invariant c.loop-i-test.true w.if-up-i.true)
+      | else-up-i+else-size-up w ↦ rw w.cells-is (step_more (long (goal.at.loop-i-preserved c).In-loop-i) more c.loop-i.invariant c.loop-i-test.true w.if-up-i.false w.if-size-up.false)
     ]
 
 pub returns : goal.returns
 returns c =
     let on = c.loop-i.invariant in
-    let all : c.loop-i.i ≡ places = omega (arith, on.tested.passed, c.told-parent) in
-    rw (eq-eqb _ _ c.told-parent, sym (tested_all on.tested (omega (arith, c.told-parent))), sym (on.summed ∙ ap (root_cells _ _) all))
+    let all : c.loop-i.i ≡ places = omega (arith, on.tested.passed, c.if-parent-ne-PLACES.false) in
+    rw (eq-eqb _ _ c.if-parent-ne-PLACES.false, sym (tested_all on.tested (omega (arith, c.if-parent-ne-PLACES.false))), sym (on.summed ∙ ap (root_cells _ _) all))
