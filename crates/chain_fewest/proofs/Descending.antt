@@ -1,12 +1,13 @@
 -- The descent from the first cell to the second: the best trail is what is written, and then the best trail from the cell
 -- that the descent has come to. A turn writes that cell and goes on to the next one (`trail_onward`).
-use Prim.Native.Nat.{ℕ, ◌+◌, ◌<◌}
+use Prim.Native.Nat.{ℕ, ◌+◌, ◌≤◌, ◌<◌}
+use native.Mathlib.Decide.{dec_lt}
 use native.Mathlib.Nat.{pos_of_ne-zero}
 use native.Mathlib.Numerals.{add-one}
 use native.Mathlib.Omega.{arith}
 use mathlib.Core.Path.{◌≡◌, sym, ◌∙◌, ap, ap₂}
 use mathlib.Core.List.{List, [], ◌∷◌, ◌++◌, append_assoc}
-use lib.ListN.{length, get_or, set, take, drop, length-set, take-append-drop}
+use lib.ListN.{length, get_or, set, take, drop, length-set, take-append-drop, get_or-eq_default}
 use lib.Seq.{take-suc-set, drop-set-lt}
 use Rattle.numbers.specs.Front.{at_front}
 use Rattle.graph.specs.Link.{Link}
@@ -15,6 +16,14 @@ use Rattle.graph.proofs.Finder.{trail_of_same}
 use Rattle.chain_fewest.specs.Levels.{Known}
 use Rattle.chain_fewest.specs.Descent.{Nearer, NextCell, DescentReady}
 use Rattle.chain_fewest.proofs.Onward.{some_nearer, trail_onward, one_left}
+
+-- a cell whose number is known is one of the cells
+pub known_inside : (remaining : List ℕ) (c : ℕ) → Known remaining c → c < length remaining
+known_inside remaining c known =
+    elim (dec_lt c (length remaining)) [
+      | yes h ↦ h
+      | no h ↦ let le : length remaining ≤ c = omega arith in absurd (omega (arith, get_or-eq_default remaining 0 le))
+    ]
 
 -- the descent has come to the cell, with the places before `place` written
 pub record Descending
@@ -31,13 +40,15 @@ module _
     {ls : List Link} {remaining chain₀ chain : List ℕ} {one other place cell : ℕ}
     (d : Descending ls remaining one other chain₀ chain place cell)
   where
-    -- the cell has room in the chain
-    pub has_place : place < length chain
-    has_place = omega (arith, d.sum, d.known, d.down.room, d.long)
+    -- the cell has room in the chain, and fits there: how few cells there are the array's type says
+    pub has_place : (place < length chain) × (cell < length remaining) × (length remaining < 65536 → cell < 65536)
+    has_place =
+        let inside = known_inside remaining cell d.known in
+        (omega (arith, d.sum, d.known, d.down.room, d.long), inside, λ few. omega arith)
 
     -- one more place is written
     written_more : take (place + 1) (set chain place cell) ≡ take place chain ++ (cell ∷ [])
-    written_more = rw add-one (take-suc-set chain place cell has_place)
+    written_more = rw add-one (take-suc-set chain place cell has_place.0)
 
     rest_more : drop (get_or remaining one 0) (set chain place cell) ≡ drop (get_or remaining one 0) chain₀
     rest_more = drop-set-lt (get_or remaining one 0) chain place cell (omega (arith, d.sum, d.known)) ∙ d.rest

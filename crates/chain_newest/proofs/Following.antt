@@ -2,11 +2,12 @@
 --
 -- A link that is joined stands at the front of `group`'s list, and at the end of ours; what parents stand for depends on what the links
 -- chain, and not on their order (`tracks_relinked`).
-use Prim.Native.Nat.{ℕ, ◌+◌, ◌≤◌, ◌<◌, min, max}
+use Prim.Native.Nat.{ℕ, zero, suc, ◌+◌, ◌≤◌, ◌<◌, min, max}
 use mathlib.Core.Path.{◌≡◌, refl, sym, ap, ◌∙◌}
 use mathlib.Core.Bool.{true, false}
 use mathlib.Core.List.{List, [], ◌∷◌, ◌++◌, append-nil, append_assoc}
 use mathlib.Core.Logic.{⊎_elim}
+use native.Mathlib.Omega.{arith}
 use Rattle.std.proofs.lemmas.List.{take_all}
 use lib.ListN.{length, get_or, take}
 use Rattle.graph.specs.Link.{Link, Linked, here, there, Chained, group}
@@ -14,9 +15,10 @@ use Rattle.graph.specs.Forest.{put}
 use Rattle.graph.proofs.Chains.{chained_group, group_chained, chained_relink, chained_left, linked_left, linked_right, linked_append_cases}
 use Rattle.forest.specs.Arrays.{places, fresh_parents_of}
 use Rattle.book_state.specs.Arrays.{cells}
-use Rattle.book_state.specs.Log.{keep}
+use Rattle.book_state.specs.Log.{keep, pair_at, links_at}
 use Rattle.book_state.specs.Numbers.{are_cells_of}
 use Rattle.book_state.proofs.Checks.{two_cells}
+use Rattle.book_state.proofs.LogLinks.{keep_append}
 use Rattle.forest_scratch.specs.declared.Roots.{Roots}
 use Rattle.forest_scratch.specs.Scratch.{Descends, roots_of, join_of, RootOf}
 use Rattle.forest_scratch.proofs.Standing.{stands_fresh}
@@ -141,6 +143,17 @@ module _ {xs : List Link} {ps ps' : List ℕ} {from via : Roots} (f : Follows xs
         met = λ links one other t e. rw (← append_assoc links xs ys) (g.met (links ++ xs) one other (f.apart links one other t n) e);
         apart = λ links one other t m. rw (← append_assoc links xs ys) (g.apart (links ++ xs) one other (f.apart links one other t n) m);
       }
+
+-- ---- the pairs of a log place
+
+-- the links of so many pairs of the log begin with those of the first i pairs
+pub links_rest : (log : List ℕ) (start i count : ℕ) → i ≤ count → (ys : List Link) × (links_at log start count ≡ links_at log start i ++ ys)
+unfolding links_at
+links_rest log start zero count h = (links_at log start count, refl)
+links_rest log start (suc i) zero h = absurd (omega arith)
+links_rest log start (suc i) (suc count) h =
+    let rest = links_rest log (start + 2) i count (omega arith) in
+    (rest.0, ap (keep (pair_at log start)) rest.1 ∙ keep_append (pair_at log start) (links_at log (start + 2) i) rest.0)
 
 -- ---- the pairs of a slide
 

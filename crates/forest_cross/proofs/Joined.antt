@@ -24,24 +24,23 @@ none_marked (suc n) (suc group) = none_marked n group
 pub group_inside : {keys next : List ℕ} {c group : ℕ} → OneSide keys next → c < places → group ≡ get_or keys c 0 → group < places
 group_inside {c = c} s h e = rw e (rw s.long at (s.keyed.inside c (rw s.long h)))
 
-pub enters_unmarked : {keys next : List ℕ} {c group : ℕ} → OneSide keys next → c < places → group ≡ get_or keys c 0 → MayEnter keys (replicate places 0) group
-enters_unmarked {c = c} {group} s h e =
-    record { inside = rw s.long (group_inside s h e); root = rw e (s.rooted c (rw s.long h)); unmarked = none_marked places group }
+-- so a root may be entered
+pub enters_unmarked : (n : ℕ) {keys : List ℕ} {group : ℕ} → group < length keys → get_or keys group 0 ≡ group → MayEnter keys (replicate n 0) group
+enters_unmarked n {keys} {group} h e = record { inside = h; root = e; unmarked = none_marked n group }
 
-module _ {own next other other_next m o : List ℕ} {one group : ℕ} (s : OneSide own next) (t : OneSide other other_next) (inside : one < places)
-    (e : group ≡ get_or own one 0) (q : Crossed own other group (replicate places 0) (replicate places 0) m o) where
+module _ {own other m o : List ℕ} {one group : ℕ} (n : ℕ) (even : length other ≡ length own) (inside : one < length own) (e : group ≡ get_or own one 0) (q : Crossed own other group (replicate n 0) (replicate n 0) m o) where
   -- a cell that has been met on one side has been met on the other
   to_other : (c : ℕ) → c < length own → Met own m c → Met other o c
-  to_other c h k = ⊎_elim (λ z. absurd (omega (arith, none_marked places (get_or own c 0)))) (λ y. y) (q.own_grown.closed c h k)
+  to_other c h k = ⊎_elim (λ z. absurd (omega (arith, none_marked n (get_or own c 0)))) (λ y. y) (q.own_grown.closed c h k)
 
   to_own : (c : ℕ) → c < length own → Met other o c → Met own m c
-  to_own c h k = ⊎_elim (λ z. absurd (omega (arith, none_marked places (get_or other c 0)))) (λ y. y) (q.other_grown.closed c (rw (t.long, ← s.long) h) k)
+  to_own c h k = ⊎_elim (λ z. absurd (omega (arith, none_marked n (get_or other c 0)))) (λ y. y) (q.other_grown.closed c (omega arith) k)
 
   -- so each cell that the first leads across to has been met on both
   all_met : {c : ℕ} → Across own other one c → Met own m c × Met other o c
   all_met (here same) =
       let k : Met own m one = rw (← e) q.met in
-      rw (← same) (k, to_other one (rw s.long inside) k)
+      rw (← same) (k, to_other one inside k)
   all_met (by_backward {c = c} r h same) =
       let k : Met own m c = rw (← same) (all_met r).0 in
       (k, to_other c h k)
@@ -50,12 +49,12 @@ module _ {own next other other_next m o : List ℕ} {one group : ℕ} (s : OneSi
       (to_own c h k, k)
 
   -- the second cell's mark answers
-  pub mark_answers : {c asked : ℕ} → c < places → asked ≡ get_or own c 0 → JoinedAcross own other one c (not (eqb (get_or m asked 0) 0))
+  pub mark_answers : {c asked : ℕ} → c < length own → asked ≡ get_or own c 0 → JoinedAcross own other one c (not (eqb (get_or m asked 0) 0))
   mark_answers {c} {asked} h g =
       record {
         yes = λ t.
             let k : Met own m c = rw (← g) (pos_of_ne-zero (eqb-false _ _ (not-true _ t))) in
-            ⊎_elim (λ z. absurd (omega (arith, none_marked places (get_or own c 0)))) (λ r. r one (rw s.long inside) (sym e)) (q.own_grown.reached c (rw s.long h) k);
+            ⊎_elim (λ z. absurd (omega (arith, none_marked n (get_or own c 0)))) (λ r. r one inside (sym e)) (q.own_grown.reached c h k);
         never = λ t r.
             let k : 1 ≤ get_or m asked 0 = rw g (all_met r).0 in
             omega (arith, eqb-true (get_or m asked 0) 0 (not-false _ t));

@@ -37,8 +37,8 @@ pub refused_file_short : (number : ℕ) → number < 256 → length (refused_fil
 refused_file_short number h =
     omega (arith, field_short 2 number (omega arith), length-append (fields (number ∷ [])) (blank ∷ file_word ++ line_feed ∷ []))
 
-pub refused_line_short : (number place : ℕ) → number < 2 ^ 32 → place < 2 ^ 32 → length (line refused_word (number ∷ place ∷ [])) ≤ 30
+pub refused_line_short : (number place : ℕ) → number < 2 ^ 8 → place < 2 ^ 32 → length (line refused_word (number ∷ place ∷ [])) ≤ 23
 refused_line_short number place p q =
     let sum = line_length refused_word (number ∷ place ∷ []) in
     let after-number = fields_length number (place ∷ []) in
-    omega (arith, field_short 9 number (omega arith), field_short 9 place (omega arith))
+    omega (arith, field_short 2 number (omega arith), field_short 9 place (omega arith))

@@ -1,6 +1,7 @@
 -- `forest_cross::crosses` meets its contract: the marks begin at 0, so what the crossing leaves at the second cell's mark is the
 -- answer (`mark_answers`).
 use Rattle.std.proofs.Common.{◌≡◌, get_or}
+use Rattle.forest.specs.Arrays.{places}
 use Rattle.forest_cross.proofs.Joined.{group_inside, enters_unmarked, mark_answers}
 use Rattle.forest_cross.proofs.crosses.Goals as goal
 use Rattle.forest_cross.proofs.crosses.Goals.{After-from-asked}
@@ -14,7 +15,9 @@ asked c = rw c.from-2.ensures at c.from-asked.ensures
 
 pub from_backward-requires : goal.from_backward-requires
 from_backward-requires c =
-    enters_unmarked c.args.backward.grouped c.requires.one (start (goal.at.from_backward-requires c).After-from-asked)
+    let own = c.args.backward.grouped in
+    let group = start (goal.at.from_backward-requires c).After-from-asked in
+    enters_unmarked places (rw own.long (group_inside own c.requires.one group)) (rw group (own.rooted c.args.one (rw own.long c.requires.one)))
 
 pub bounds-backward_marks-asked : goal.bounds-backward_marks-asked
 bounds-backward_marks-asked c =
@@ -22,5 +25,7 @@ bounds-backward_marks-asked c =
 
 pub returns : goal.returns
 returns c =
+    let own = c.args.backward.grouped in
+    let other = c.args.forward.grouped in
     let at = (goal.at.returns c).After-from-asked in
-    mark_answers c.args.backward.grouped c.args.forward.grouped c.requires.one (start at) c.from_backward.ensures c.requires.other (asked at)
+    mark_answers places (rw own.long other.long) (rw own.long c.requires.one) (start at) c.from_backward.ensures (rw own.long c.requires.other) (asked at)
