@@ -1,6 +1,6 @@
 -- The public functions below the exported calls: two results that a contract allows are equal, lent memory included (RULES 10.2). They are
--- taken as the kit hands them out (Calls). Left out are contracts that are an equation for the result and one for each lent buffer: these
--- allow one result by their form.
+-- taken as the kit hands them out (Calls), but for `Mounting::try_from`, of which the relation is taken that its law names. Left out are
+-- contracts that are an equation for the result and one for each lent buffer: these allow one result by their form.
 use Rattle.book_time.specs.contracts.freshen as freshen
 use Rattle.book_time.proofs.freshen.Symbol as freshen_symbol
 use Rattle.book_time.specs.contracts.move_to as move_to
